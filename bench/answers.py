@@ -2,24 +2,26 @@
 """Answers dear goals of a crate by `grind`: bench/answers.py CRATE DIR [--least N] [--using N], and then
 bench/answers.py CRATE --refused FILE
 
-DIR is what `rattle check --incremental DIR` wrote for the crate, from nothing. But for the goals that slips are tried at (`goals` in their
-files), each goal that took N steps or more and has no answer is answered by `grind (arith, common_steps)` in the `Answers.antt` of its
-function, with the lemmas that the function is `using` behind these. N is what --least says, half a million if it isn't said, and for goals
-of functions that are `using` lemmas what --using says, if it is said. Check the crate again over DIR; FILE holds what that check says, and
-the answers of that form which it refuses are taken out. Then `rt fmt`, and try the crate's slips again: one may take a goal away that is
-answered, or make `grind` fail at a further one. Of goals in cycles it isn't known which slips are tried at them.
+DIR is what `rattle check --incremental DIR` wrote for the crate, from nothing. But for the goals that mutants are tried at (`goals` in
+mutants/measured.txt), each goal that took N steps or more and has no answer is answered by `grind (arith, common_steps)` in the
+`Answers.antt` of its function, with the lemmas that the function is `using` behind these. N is what --least says, half a million if it
+isn't said, and for goals of functions that are `using` lemmas what --using says, if it is said. Check the crate again over DIR; FILE holds
+what that check says, and the answers of that form which it refuses are taken out. Then `rt fmt`, and try the crate's mutants again: one may
+take a goal away that is answered, or make `grind` fail at a further one. Of goals in cycles it isn't known which mutants are tried at them.
 """
 import argparse
-import glob
 import os
 import re
 import sys
 from functools import cache
 
 sys.dont_write_bytecode = True
+TOP = os.path.dirname(os.path.dirname(os.path.abspath(__file__)))
+sys.path.insert(1, os.path.join(TOP, "tools"))
 from goals import goals_in  # noqa: E402
+from mutants.measured import Measured  # noqa: E402
 
-CRATES = os.path.join(os.path.dirname(os.path.dirname(os.path.abspath(__file__))), "crates")
+CRATES = os.path.join(TOP, "crates")
 USED = {"arith": "Rattle.std.proofs.Common", "common_steps": "Rattle.std.proofs.lemmas.Grind"}
 REFUSED = re.compile(r"^(?:\./)?proofs/(\S+)/Answers\.antt:\d+:\d+: error: `([^`]+)`", re.M)
 
@@ -38,10 +40,11 @@ def write(path, text):
 
 
 def first_goals(folder):
-    """The goals that slips are tried at, each with its function."""
-    texts = map(read, glob.glob(f"{folder}/slips/*.edit"))
-    found = ((re.search(r"^function: (.*)", it, re.M), re.search(r"^goals: (\S+)", it, re.M)) for it in texts)
-    return {(function[1].replace("::", "."), goal[1]) for function, goal in found if goal}
+    """The goals that mutants are tried at, each with its function."""
+    measured = Measured(f"{folder}/mutants")
+    goals = {name: measured.words(name, "goals") for name in measured.mutants()}
+    functions = {name: re.search(r"^function: (.*)", read(f"{folder}/mutants/{name}.edit"), re.M)[1] for name in goals}
+    return {(functions[name].replace("::", "."), found[0]) for name, found in goals.items() if found}
 
 
 def attribute(folder, function):

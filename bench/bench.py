@@ -485,7 +485,7 @@ def macro_types(size):
 def definitions(size):
     """One block of very many definitions of macros of few names, and then a jump out of an expansion of each, 10,000 at 60,000 nodes.
 
-    The last jump is for the first definition, behind which all others stand, so that this isn't linear.
+    The last jump is for the first definition, behind which all others stand.
     """
     nodes, block = body()
     loop = nodes.add("LoopExpr")
@@ -505,6 +505,26 @@ def definitions(size):
         stands_for = expanded(nodes, "MacroExpr", "MacroStmts") + 2
         nodes.all[stands_for]["expr"] = nodes.add("BreakExpr", lifetime="'a")
         nodes.env["hygiene"].append([1, stands_for + 1, number + 1])
+    return nodes
+
+
+def passed(size):
+    """One block of very many definitions of macros, and then as many jumps past all of them, 66,000 at 200,000 nodes."""
+    nodes, block = body()
+    loop = nodes.add("LoopExpr")
+    nodes.all[block]["tail"] = loop
+    nodes.all[loop]["label"] = nodes.add("Label", lifetime="'a")
+    inner = nodes.add("BlockExpr", stmts=[])
+    nodes.all[loop]["body"] = inner
+    macros = (size - len(nodes.all)) // 3
+    nodes.env["legacy"] = []
+    for number in range(macros):
+        name = "m%d" % (number % NAMES)
+        nodes.all[inner]["stmts"].append(nodes.add("MacroRules", name=name))
+        nodes.env["legacy"].append([0, name, number // NAMES, number])
+    for _ in range(macros):
+        nodes.statement(inner)
+        nodes.add("BreakExpr", lifetime="'a")
     return nodes
 
 
@@ -582,6 +602,17 @@ def alias_uses(size):
     return nodes
 
 
+def alias_marks(size):
+    """Very many uses of an alias, each with two names of its own, of which one constrains: at 1,000,000 nodes 111,000 uses."""
+    uses = size // 9 - 2
+    names = [["'x%d" % k, "'y%d" % k] for k in range(uses)]
+    nodes, fields, params = signature([name for pair in names for name in pair], ["'a", "'b"])
+    fields.append(reference(nodes, "'b"))
+    for pair in names:
+        params.append(use_of_alias(nodes, pair))
+    return nodes
+
+
 def alias_names(size):
     """One use of an alias that has very many lifetime parameters and names each: at 1,000,000 nodes 200,000 of them."""
     places = size // 5 - 5
@@ -592,10 +623,9 @@ def alias_names(size):
     return nodes
 
 
-def lifetime_names(size):
-    """Very many lifetime parameters, of which each is named by a bound of the next, by an argument and in what is returned."""
+def named_lifetimes(names):
+    """A function with lifetime parameters of these names, each of which a bound of the next, an argument and what is returned name."""
     nodes = Nodes()
-    names = ["'x%d" % k for k in range(size // 8)]
     function = nodes.add("Fn")
     generics = nodes.add("GenericParamList", params=[])
     nodes.all[function]["generics"] = generics
@@ -616,6 +646,81 @@ def lifetime_names(size):
     return nodes
 
 
+def lifetime_names(size):
+    """Very many lifetime parameters, 125,000 at 1,000,000 nodes, each named by a bound of the next, an argument and in what is returned."""
+    return named_lifetimes(["'x%d" % k for k in range(size // 8)])
+
+
+def crowded(count):
+    """So many names of lifetimes that the hasher of the kit's sets takes to an eighth of each table, where it isn't fed a key.
+
+    That is SipHash-1-3 with the keys 0, whose halves are joined by xor. A table of a power of two of groups finds a name's group by the
+    lowest bits, and goes on from there to the next one that isn't full. So names of the first eighth fill the table from its start, and
+    each new one passes nearly all groups that are full.
+    """
+    mask = (1 << 64) - 1
+
+    def turned(word, bits):
+        return (word << bits | word >> 64 - bits) & mask
+
+    def mix(v0, v1, v2, v3):
+        v0 = v0 + v1 & mask
+        v2 = v2 + v3 & mask
+        v1 = turned(v1, 13) ^ v0
+        v3 = turned(v3, 16) ^ v2
+        v2 = v2 + v1 & mask
+        v0 = turned(v0, 32) + v3 & mask
+        return v0, turned(v1, 17) ^ v2, turned(v2, 32), turned(v3, 21) ^ v0
+
+    def fed(state, word):
+        v0, v1, v2, v3 = mix(*state[:3], state[3] ^ word)
+        return v0 ^ word, v1, v2, v3
+
+    # The number of the kind of the name is hashed first, then its seven bytes and one that ends it.
+    begun = fed((0x736F_6D65_7073_6575, 0x646F_7261_6E64_6F6D, 0x6C79_6765_6E65_7261, 0x7465_6462_7974_6573), 0)
+    groups = 1
+    while 9 * groups < count:
+        groups *= 2
+    names = []
+    for tried in itertools.product("abcdefghijklmnopqrstuvwxyz", repeat=6):
+        name = "'" + "".join(tried)
+        v0, v1, v2, v3 = fed(fed(begun, int.from_bytes(name.encode() + b"\xff", "little")), 16 << 56)
+        v2 ^= 0xFF
+        for _ in range(3):
+            v0, v1, v2, v3 = mix(v0, v1, v2, v3)
+        found = v0 ^ v1 ^ v2 ^ v3
+        if (found ^ found >> 32) % groups < max(groups // 8, 1):
+            names.append(name)
+            if len(names) == count:
+                return names
+
+
+def lifetime_collisions(size):
+    """Very many lifetimes that are named as those of `lifetime_names`, all of which a hash without a key takes to a few places."""
+    return named_lifetimes(crowded(size // 8))
+
+
+def binder_names(size):
+    """An alias, which isn't printed, with a condition of very many bounds behind one `for<..>` of very many names: at 1,000,000 nodes
+    500,000 names and 250,000 bounds. What is printed of such a condition repeats the names for each bound."""
+    nodes = Nodes()
+    nodes.add("Fn")
+    alias = nodes.add("TypeAlias")
+    nodes.env["aliases"] = [[0, alias]]
+    nodes.all[alias]["where"] = where = nodes.add("WhereClause", preds=[])
+    condition = nodes.add("WherePred", bounds=[])
+    nodes.all[where]["preds"].append(condition)
+    nodes.all[condition]["ty"] = nodes.add("NeverType")
+    nodes.all[condition]["binder"] = nodes.add("ForBinder", params=["'x%d" % k for k in range(size // 2)])
+    while len(nodes.all) + 4 <= size:
+        bound = nodes.add("TypeBound", b="path")
+        nodes.all[condition]["bounds"].append(bound)
+        nodes.all[bound]["ty"] = nodes.add("PathType", path=bound + 2)
+        nodes.add("Path", segs=[bound + 3])
+        nodes.add("PathSegment", seg="name", name="A")
+    return nodes
+
+
 SHAPES = {
     "wide": wide,
     "calls": calls,
@@ -625,6 +730,7 @@ SHAPES = {
     "macro_pats": macro_pats,
     "macro_types": macro_types,
     "definitions": definitions,
+    "passed": passed,
     "resolved": resolved,
     "deep": deep,
     "labels": labels,
@@ -651,12 +757,12 @@ SHAPES = {
     "arms": arms,
     "alias": alias,
     "alias_uses": alias_uses,
+    "alias_marks": alias_marks,
     "alias_names": alias_names,
     "lifetime_names": lifetime_names,
+    "lifetime_collisions": lifetime_collisions,
+    "binder_names": binder_names,
 }
-
-# The shapes that aren't linear, and up to which size they are run.
-MOST = {"definitions": 100_000}
 
 # The shapes whose root is no function.
 MODES = {
@@ -671,8 +777,11 @@ MODES = {
     "collisions": "pat",
     "alias": "fn",
     "alias_uses": "fn",
+    "alias_marks": "fn",
     "alias_names": "fn",
     "lifetime_names": "fn",
+    "lifetime_collisions": "fn",
+    "binder_names": "fn",
 }
 
 
@@ -729,7 +838,7 @@ def main():
     print("%-12s %9s %9s %8s %9s %9s %9s %9s %9s" % HEADS)
     failed = False
     for name in [given.shape] if given.shape else list(SHAPES):
-        for size in [size for size in SIZES if size <= min(given.most, MOST.get(name, given.most))]:
+        for size in [size for size in SIZES if size <= given.most]:
             failed = line(given.program, name, size) or failed
     return 1 if failed else 0
 

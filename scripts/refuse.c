@@ -1,7 +1,7 @@
 // Preloaded under the built program. At each request for memory the process
 // forks: the child's request is refused, and it runs on to its end. The parent
 // waits for it, tells the sweep, and goes on as if there had been no child: so
-// one start of the program serves all requests of a row, and the parent is the
+// one start of the program serves all requests of a golden test, and the parent is the
 // run that no refusal meets.
 #define _GNU_SOURCE
 #include <errno.h>

@@ -1,13 +1,13 @@
-// Runs rows with each of their requests for memory refused in turn.
+// Runs golden tests with each of their requests for memory refused in turn.
 //
-//   sweep LIBRARY SECONDS PROGRAM <ROWS
+//   sweep LIBRARY SECONDS PROGRAM <TESTS
 //
-// LIBRARY is refuse.c as a library, and each line of ROWS is the path of a row
-// without an ending. Answers are compared here, out of the program's reach. A
-// row is given up where nothing is heard of it for so many seconds. One with the
-// ending `.test` is a test, which itself says whether a refusal is answered as it
-// has to be: it ends as it does where none is, and behind a line `memory` where
-// memory was refused to what it tests.
+// LIBRARY is refuse.c as a library, and each line of TESTS is the path of a test's
+// plain files (tests/golden/README.md) without an ending. Answers are compared here,
+// out of the program's reach. A test is given up where nothing is heard of it for so
+// many seconds. One with the ending `.unit` is a unit test, which itself says whether
+// a refusal is answered as it has to be: it ends as it does where none is, and behind
+// a line `memory` where memory was refused to what it tests.
 #define _GNU_SOURCE
 #include <errno.h>
 #include <fcntl.h>
@@ -35,13 +35,13 @@ struct text {
     size_t length;
 };
 
-// What a row gives the program, and what it wants of it.
-struct row {
+// What a test gives the program, and what it wants of it.
+struct test {
     const char *path;
     char *words[MOST_WORDS + 2];
     int input, output;
     struct text mode, out, err;
-    int status, is_test;
+    int status, is_unit;
 };
 
 // A worker's files for what a program writes.
@@ -49,7 +49,7 @@ struct worker {
     int out, err;
 };
 
-// What is seen of a row while it runs.
+// What is seen of a test while it runs.
 struct seen {
     int link;
     unsigned long runs, refused;
@@ -64,8 +64,8 @@ struct sums {
 
 static char *program;
 static long seconds;
-static char **rows;
-static size_t row_count;
+static char **tests;
+static size_t test_count;
 static struct sums *sums;
 
 static void fail(const char *what) {
@@ -88,11 +88,11 @@ __attribute__((format(printf, 2, 3))) static void tell_wrong(int shown, const ch
     __atomic_fetch_add(&sums->wrong, 1, __ATOMIC_RELAXED);
 }
 
-static struct text contents(const char *row, const char *ending) {
+static struct text contents(const char *test, const char *ending) {
     struct text text = {NULL, 0};
     struct stat stat;
     char path[MOST_PATH];
-    if (snprintf(path, sizeof path, "%s%s", row, ending) >= MOST_PATH) fail(row);
+    if (snprintf(path, sizeof path, "%s%s", test, ending) >= MOST_PATH) fail(test);
     int file = open(path, O_RDONLY | O_CLOEXEC);
     if (file < 0) return text;
     if (fstat(file, &stat) != 0) fail(path);
@@ -104,7 +104,7 @@ static struct text contents(const char *row, const char *ending) {
     return text;
 }
 
-// Opens the file that a row's file names.
+// Opens the file that a test's file names.
 static int open_named(struct text name, int flags) {
     name.bytes[strcspn(name.bytes, "\n")] = '\0';
     int file = open(name.bytes, flags | O_CLOEXEC, 0644);
@@ -138,18 +138,18 @@ static int status_wanted(const char *path) {
     return status;
 }
 
-static void split_words(struct row *row) {
-    char *rest = row->mode.bytes;
+static void split_words(struct test *test) {
+    char *rest = test->mode.bytes;
     int count = 0;
-    row->words[count++] = program;
+    test->words[count++] = program;
     for (char *word; (word = strtok_r(rest, " \t\n", &rest)) != NULL;) {
-        if (count > MOST_WORDS) fail(row->path);
-        row->words[count++] = word;
+        if (count > MOST_WORDS) fail(test->path);
+        test->words[count++] = word;
     }
 }
 
-static struct row read_row(const char *path, const struct worker *worker) {
-    struct row row = {
+static struct test read_test(const char *path, const struct worker *worker) {
+    struct test test = {
         .path = path,
         .mode = contents(path, ".mode"),
         .out = contents(path, ".out"),
@@ -157,19 +157,19 @@ static struct row read_row(const char *path, const struct worker *worker) {
         .input = input_of(path),
         .output = output_of(path, worker),
         .status = status_wanted(path),
-        .is_test = has_file(path, ".test"),
+        .is_unit = has_file(path, ".unit"),
     };
-    if (row.mode.bytes == NULL) fail(path);
-    split_words(&row);
-    return row;
+    if (test.mode.bytes == NULL) fail(path);
+    split_words(&test);
+    return test;
 }
 
-static void let_go(struct row *row, const struct worker *worker) {
-    if (row->input >= 0) close(row->input);
-    if (row->output >= 0 && row->output != worker->out) close(row->output);
-    free(row->mode.bytes);
-    free(row->out.bytes);
-    free(row->err.bytes);
+static void let_go(struct test *test, const struct worker *worker) {
+    if (test->input >= 0) close(test->input);
+    if (test->output >= 0 && test->output != worker->out) close(test->output);
+    free(test->mode.bytes);
+    free(test->out.bytes);
+    free(test->err.bytes);
 }
 
 // Whether a file holds just these bytes behind the first ones.
@@ -187,50 +187,50 @@ static int holds_behind(int file, size_t first, const char *bytes, size_t length
 
 static int holds(int file, const char *bytes, size_t length) { return holds_behind(file, 0, bytes, length); }
 
-// Whether a row is answered as it says, behind so many bytes.
-static int is_answer_behind(const struct worker *worker, const struct row *row, int status, size_t first) {
-    return status == row->status && row->out.bytes != NULL && holds_behind(worker->out, first, row->out.bytes, row->out.length)
-        && holds(worker->err, row->err.bytes, row->err.length);
+// Whether a test is answered as it says, behind so many bytes.
+static int is_answer_behind(const struct worker *worker, const struct test *test, int status, size_t first) {
+    return status == test->status && test->out.bytes != NULL && holds_behind(worker->out, first, test->out.bytes, test->out.length)
+        && holds(worker->err, test->err.bytes, test->err.length);
 }
 
-static int is_own_answer(const struct worker *worker, const struct row *row, int status) {
-    return is_answer_behind(worker, row, status, 0);
+static int is_own_answer(const struct worker *worker, const struct test *test, int status) {
+    return is_answer_behind(worker, test, status, 0);
 }
 
-// Whether a test says that memory was refused to what it tests, and passes.
-static int is_told(const struct worker *worker, const struct row *row, int status) {
+// Whether a unit test says that memory was refused to what it tests, and passes.
+static int is_told(const struct worker *worker, const struct test *test, int status) {
     static const char line[] = "memory\n";
     char first[sizeof line - 1];
     return pread(worker->out, first, sizeof first, 0) == sizeof first && memcmp(first, line, sizeof first) == 0
-        && is_answer_behind(worker, row, status, sizeof first);
+        && is_answer_behind(worker, test, status, sizeof first);
 }
 
-static int is_refusal(const struct worker *worker, const struct row *row, int status) {
+static int is_refusal(const struct worker *worker, const struct test *test, int status) {
     static const char memory[] = "refused: memory\n";
-    if (row->is_test) return is_told(worker, row, status);
+    if (test->is_unit) return is_told(worker, test, status);
     return status == 3 && holds(worker->out, NULL, 0) && holds(worker->err, memory, sizeof memory - 1);
 }
 
 // As a shell tells it.
 static int status_of(int status) { return WIFSIGNALED(status) ? 128 + WTERMSIG(status) : WEXITSTATUS(status); }
 
-static void judge(const struct worker *worker, const struct row *row, struct seen *seen, int status) {
+static void judge(const struct worker *worker, const struct test *test, struct seen *seen, int status) {
     seen->runs += 1;
-    if (seen->run_left && is_refusal(worker, row, status)) {
+    if (seen->run_left && is_refusal(worker, test, status)) {
         seen->refused += 1;
-    } else if (!seen->run_left || !is_own_answer(worker, row, status)) {
-        tell_wrong(worker->err, "WRONG %s: status %d with request %lu refused\n", row->path, status, seen->runs);
+    } else if (!seen->run_left || !is_own_answer(worker, test, status)) {
+        tell_wrong(worker->err, "WRONG %s: status %d with request %lu refused\n", test->path, status, seen->runs);
     }
     seen->run_left = 0;
 }
 
-static void hear(const struct worker *worker, const struct row *row, struct seen *seen, const struct event *event) {
+static void hear(const struct worker *worker, const struct test *test, struct seen *seen, const struct event *event) {
     switch (event->said) {
     case RUN_LEAVES:
         seen->run_left = 1;
         break;
     case RUN_OVER:
-        judge(worker, row, seen, status_of(event->status));
+        judge(worker, test, seen, status_of(event->status));
         send(seen->link, "", 1, MSG_NOSIGNAL);
         break;
     case WHOLE_LEAVES:
@@ -240,21 +240,21 @@ static void hear(const struct worker *worker, const struct row *row, struct seen
 }
 
 // The program in a process group of its own, which ends with this process.
-static void become_program(const struct worker *worker, struct row *row, int link) {
+static void become_program(const struct worker *worker, struct test *test, int link) {
     struct rlimit most = {MOST_WRITTEN, MOST_WRITTEN};
     prctl(PR_SET_PDEATHSIG, SIGKILL);
     setpgid(0, 0);
     setrlimit(RLIMIT_FSIZE, &most);
-    dup2(row->input, STDIN_FILENO);
-    dup2(row->output, STDOUT_FILENO);
+    dup2(test->input, STDIN_FILENO);
+    dup2(test->output, STDOUT_FILENO);
     dup2(worker->err, STDERR_FILENO);
     dup2(link, LINK);
-    execv(program, row->words);
+    execv(program, test->words);
     _exit(127);
 }
 
-// Runs all of a row and answers the status of the run that no refusal met.
-static int run(const struct worker *worker, struct row *row, struct seen *seen) {
+// Runs all of a test and answers the status of the run that no refusal met.
+static int run(const struct worker *worker, struct test *test, struct seen *seen) {
     int ends[2];
     struct timeval limit = {.tv_sec = seconds};
     if (socketpair(AF_UNIX, SOCK_SEQPACKET, 0, ends) != 0) fail("socketpair");
@@ -263,13 +263,13 @@ static int run(const struct worker *worker, struct row *row, struct seen *seen) 
     seen->link = ends[0];
     pid_t whole = fork();
     if (whole < 0) fail("fork");
-    if (whole == 0) become_program(worker, row, ends[1]);
+    if (whole == 0) become_program(worker, test, ends[1]);
     close(ends[1]);
     struct event event;
     ssize_t got;
-    while ((got = recv(seen->link, &event, sizeof event, 0)) == sizeof event) hear(worker, row, seen, &event);
+    while ((got = recv(seen->link, &event, sizeof event, 0)) == sizeof event) hear(worker, test, seen, &event);
     if (got < 0 && errno == EAGAIN)
-        tell_wrong(-1, "WRONG %s: no end with request %lu or none refused\n", row->path, seen->runs + 1);
+        tell_wrong(-1, "WRONG %s: no end with request %lu or none refused\n", test->path, seen->runs + 1);
     // Whatever still runs of it goes: a run without end, with the one that waits for it.
     kill(-whole, SIGKILL);
     int status;
@@ -279,22 +279,22 @@ static int run(const struct worker *worker, struct row *row, struct seen *seen) 
     return status_of(status);
 }
 
-static void sweep_row(const char *path, const struct worker *worker) {
-    struct row row = read_row(path, worker);
+static void sweep_test(const char *path, const struct worker *worker) {
+    struct test test = read_test(path, worker);
     struct seen seen = {0};
     int status = 127;
     if (ftruncate(worker->out, 0) != 0 || ftruncate(worker->err, 0) != 0) fail("ftruncate");
     lseek(worker->out, 0, SEEK_SET);
     lseek(worker->err, 0, SEEK_SET);
-    if (row.input >= 0 && row.output >= 0) status = run(worker, &row, &seen);
-    // The run that no refusal met must answer as the row says, and one request at least must have been refused.
-    if (!seen.whole_left || !is_own_answer(worker, &row, status) || seen.refused == 0)
+    if (test.input >= 0 && test.output >= 0) status = run(worker, &test, &seen);
+    // The run that no refusal met must answer as the test says, and one request at least must have been refused.
+    if (!seen.whole_left || !is_own_answer(worker, &test, status) || seen.refused == 0)
         tell_wrong(-1, "WRONG %s: %lu of %lu requests refused, then status %d\n", path, seen.refused, seen.runs, status);
     __atomic_fetch_add(&sums->runs, seen.runs, __ATOMIC_RELAXED);
-    let_go(&row, worker);
+    let_go(&test, worker);
 }
 
-// Takes rows until there are no more.
+// Takes tests until there are no more.
 static void work(void) {
     struct worker worker = {memfd_create("out", MFD_CLOEXEC), memfd_create("err", MFD_CLOEXEC)};
     if (worker.out < 0 || worker.err < 0) fail("memfd_create");
@@ -302,24 +302,24 @@ static void work(void) {
     // What a program leaves behind is waited for here.
     prctl(PR_SET_CHILD_SUBREAPER, 1);
     size_t at;
-    while ((at = __atomic_fetch_add(&sums->next, 1, __ATOMIC_RELAXED)) < row_count) sweep_row(rows[at], &worker);
+    while ((at = __atomic_fetch_add(&sums->next, 1, __ATOMIC_RELAXED)) < test_count) sweep_test(tests[at], &worker);
     exit(0);
 }
 
-static void read_rows(void) {
+static void read_tests(void) {
     char *line = NULL;
     size_t room = 0;
-    for (ssize_t length; (length = getline(&line, &room, stdin)) > 0; row_count++) {
+    for (ssize_t length; (length = getline(&line, &room, stdin)) > 0; test_count++) {
         if (line[length - 1] == '\n') line[length - 1] = '\0';
-        rows = realloc(rows, (row_count + 1) * sizeof *rows);
-        if (rows == NULL || (rows[row_count] = strdup(line)) == NULL) fail("sweep");
+        tests = realloc(tests, (test_count + 1) * sizeof *tests);
+        if (tests == NULL || (tests[test_count] = strdup(line)) == NULL) fail("sweep");
     }
     free(line);
 }
 
 int main(int count, char **words) {
     if (count != 4) {
-        fputs("usage: sweep LIBRARY SECONDS PROGRAM <ROWS\n", stderr);
+        fputs("usage: sweep LIBRARY SECONDS PROGRAM <TESTS\n", stderr);
         return 2;
     }
     setenv("LD_PRELOAD", words[1], 1);
@@ -328,7 +328,7 @@ int main(int count, char **words) {
     seconds = atol(words[2]);
     program = words[3];
     prctl(PR_SET_PDEATHSIG, SIGKILL);
-    read_rows();
+    read_tests();
     sums = mmap(NULL, sizeof *sums, PROT_READ | PROT_WRITE, MAP_SHARED | MAP_ANONYMOUS, -1, 0);
     cpu_set_t cores;
     if (sums == MAP_FAILED || sched_getaffinity(0, sizeof cores, &cores) != 0) fail("sweep");

@@ -1,3 +1,3 @@
 pub mod First
-pub mod Noted
+pub mod Tracked
 pub mod Walked

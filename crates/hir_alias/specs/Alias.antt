@@ -16,4 +16,4 @@ pub record Alias : Type 0 where
 -- nowhere else.
 pub record Flags (store : Store) (generic_params : GenericParams) (ty : Option TypeRefId) (named : List Bool) : Type 0 where
   pub counted : length named ≡ length generic_params.lifetimes
-  pub told : (place : ℕ) → (slice_get named place ≡ Some true) ↔ Names store generic_params.lifetimes ty place
+  pub emitted : (place : ℕ) → (slice_get named place ≡ Some true) ↔ Names store generic_params.lifetimes ty place

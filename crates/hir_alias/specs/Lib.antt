@@ -1,4 +1,4 @@
 pub mod Reaching
 pub mod Alias
 pub mod Placing
-pub mod Noting
+pub mod Tracking

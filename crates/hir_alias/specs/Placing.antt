@@ -5,9 +5,9 @@ use Rattle.std.specs.Map.{lookup}
 use Rattle.hir_store.specs.NameOrder.{name_cmp}
 use Rattle.hir_store.specs.declared.name.Name.{Name}
 
-abbrev pub found : List (Name × ℕ) → Name → Option ℕ
-found es n = lookup (is_at (name_cmp n)) es
+abbrev pub place_of_name : List (Name × ℕ) → Name → Option ℕ
+place_of_name es n = lookup (is_at (name_cmp n)) es
 
 -- one more, which counts where the name had no place before
 abbrev pub with_first : List (Name × ℕ) → Name → ℕ → List (Name × ℕ)
-with_first es n k = if is_some (found es n) then es else insert_entry name_cmp es n k
+with_first es n k = if is_some (place_of_name es n) then es else insert_entry name_cmp es n k

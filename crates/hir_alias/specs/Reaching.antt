@@ -1,17 +1,24 @@
 -- Which lifetime parameters the type of an alias names.
-use Rattle.std.specs.Prelude.{ℕ, ◌≡◌, not, List, [], ◌∷◌, Option, Some, None}
+use Rattle.std.specs.Prelude.{ℕ, ◌≡◌, Bool, not, if◌then◌else◌, List, [], ◌∷◌, ◌++◌, Option, Some, None}
 use Rattle.std.specs.Prelude.{slice_get, ◌⊎◌}
 use Rattle.hir_store.specs.Stored.{Store}
 use Rattle.std.specs.List.{position_from}
 use Rattle.hir_store.specs.Params.{is_called}
-use Rattle.hir_store.specs.Parts.{Part, a_type, a_lifetime, parts}
+use Rattle.hir_store.specs.Parts.{Parts, no_parts, type_and, lifetime_and, args_and, parts, parts_found}
 use Rattle.hir_store.specs.declared.generics.LifetimeParamData.{LifetimeParamData}
 use Rattle.hir_store.specs.declared.ids.TypeRefId.{TypeRefId}
 use Rattle.hir_store.specs.declared.ids.LifetimeRefId.{LifetimeRefId}
 use Rattle.hir_store.specs.declared.name.Name.{Name}
+use Rattle.hir_store.specs.declared.path.GenericArgs.{GenericArgs}
+use Rattle.hir_store.specs.declared.path.AssociatedTypeBinding.TheViews.{out-GenericArgs}
 use Rattle.hir_store.specs.declared.type_ref.TypeRef.{TypeRef}
 use Rattle.hir_store.specs.declared.type_ref.LifetimeRef.{LifetimeRef}
 use Rattle.hir_store.specs.declared.type_ref.LifetimeRef.TheVariants as lifetime
+
+-- a part that the walk follows, which is a number of the same store
+pub data Part : Type 0 where
+  a_type : TypeRefId → Part
+  a_lifetime : LifetimeRefId → Part
 
 -- a part that stands in a list
 abbrev pub Among : Part → List Part → Type 0
@@ -19,8 +26,21 @@ Among p [] = ⊥
 Among p (q ∷ qs) = (p ≡ q) ⊎ Among p qs
 
 -- arguments with `Self` aren't gone into
+abbrev pub goes_into : GenericArgs → Bool
+goes_into a = not (out-GenericArgs a).has_self_type
+
+abbrev pub part_list : Parts → List Part
+part_list no_parts = []
+part_list (type_and t ps) = a_type t ∷ part_list ps
+part_list (lifetime_and l ps) = a_lifetime l ∷ part_list ps
+part_list (args_and a inside ps) = (if goes_into a then part_list inside else []) ++ part_list ps
+
 abbrev pub alias_parts : TypeRef → List Part
-alias_parts = parts not
+alias_parts x = part_list (parts x)
+
+-- of what stands there, where anything does
+abbrev pub alias_parts_found : Option TypeRef → List Part
+alias_parts_found x = part_list (parts_found x)
 
 -- The types that are reached from one: itself, and each type among the parts of one that is reached and stands in the store.
 pub data Reached (types : List TypeRef) (root : TypeRefId) : TypeRefId → Type 0 where
@@ -42,7 +62,7 @@ pub record Named (types : List TypeRef) (lifetimes : List LifetimeRef) (find : N
   pub at : TypeRefId
   pub reached : Reached types root at
   pub form : TypeRef
-  pub stands : slice_get types at.0 ≡ Some form
+  pub corresponds : slice_get types at.0 ≡ Some form
   pub lifetime : LifetimeRefId
   pub among : Among (a_lifetime lifetime) (alias_parts form)
   pub names_it : named_place lifetimes find lifetime ≡ Some place

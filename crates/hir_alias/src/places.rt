@@ -1,7 +1,7 @@
 //! Places of lifetime parameters by name.
 
 ghost use Rattle.std.specs.Prelude.{◌≡◌, [], IfOk};
-ghost use Rattle.hir_alias.specs.Placing.{found, with_first};
+ghost use Rattle.hir_alias.specs.Placing.{place_of_name, with_first};
 ghost use Rattle.hir_alias.specs.Reaching.{place_of};
 ghost use Rattle.hir_store.specs.declared.name.Name.{Name as NameValue};
 
@@ -57,14 +57,14 @@ impl Places {
 
     /// The place that is said of the name.
     pub fn get(&self, name: &Name) -> Option<usize>
-        ensures { result ≡ found self.now name.now }
+        ensures { result ≡ place_of_name self.now name.now }
     {
         self.entries.get(name).copied()
     }
 
     /// The places of the parameters, of each name that of the first.
     pub fn of(alloc: Global, params: &[LifetimeParamData]) -> Result<Places, AllocError>
-        ensures { IfOk result (λ places. (name : NameValue) → found places name ≡ place_of params.now name) }
+        ensures { IfOk result (λ places. (name : NameValue) → place_of_name places name ≡ place_of params.now name) }
     {
         let mut done = Places::new(alloc);
         let mut at: usize = 0;

@@ -3,11 +3,11 @@
 ghost use Rattle.std.specs.Prelude.{◌≡◌, ◌≢◌, ◌↔◌, Err, IfOk, IsTrue, slice_get, true};
 ghost use Rattle.hir_alias.specs.Alias.{Flags};
 ghost use Rattle.hir_alias.specs.Reaching.{Names};
-ghost use Rattle.hir_store.specs.declared.fault.StoreFault.TheVariants.{Full};
+ghost use Rattle.hir_store.specs.declared.error.StoreError.TheVariants.{Full};
 
 use crate::visitor::Visitor;
 use hir_base::Seq;
-use hir_store::fault::StoreFault;
+use hir_store::error::StoreError;
 use hir_store::generics::GenericParams;
 use hir_store::ids::TypeRefId;
 use hir_store::store::ExpressionStore;
@@ -75,7 +75,7 @@ impl AliasSignature {
         store: ExpressionStore,
         generic_params: GenericParams,
         ty: Option<TypeRefId>,
-    ) -> Result<AliasSignature, StoreFault>
+    ) -> Result<AliasSignature, StoreError>
         ensures store { IfOk result (λ alias. alias.store ≡ store) }
         ensures generic_params { IfOk result (λ alias. alias.generic_params ≡ generic_params) }
         ensures ty { IfOk result (λ alias. alias.ty ≡ ty) }
@@ -119,14 +119,14 @@ impl AliasSignature {
     /// Of each lifetime parameter, in their order, whether the type names it.
     pub fn named(&self) -> &[bool]
         ensures named { result.now ≡ self.now.named }
-        ensures told { Flags self.now.store self.now.generic_params self.now.ty result.now }
+        ensures emitted { Flags self.now.store self.now.generic_params self.now.ty result.now }
     {
         self.named.as_slice()
     }
 
     /// Whether the type names the lifetime parameter at this place; past the last one it doesn't.
-    pub fn constrained(&self, place: u32) -> bool
-        ensures told { IsTrue result ↔ Names self.now.store self.now.generic_params.lifetimes self.now.ty place }
+    pub fn is_constrained(&self, place: u32) -> bool
+        ensures emitted { IsTrue result ↔ Names self.now.store self.now.generic_params.lifetimes self.now.ty place }
         ensures flag { IsTrue result ↔ (slice_get self.now.named place ≡ Some true) }
     {
         match self.named.get(place as usize) {

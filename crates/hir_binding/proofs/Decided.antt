@@ -16,20 +16,20 @@ abbrev pub Denies : Bool → Type 0 → Type 0
 Denies b P = MatchBool b (¬ P) P
 
 -- a test: where it is true the fact holds
-abbrev pub Tells : Bool → Type 0 → Type 0
-Tells b P = MatchBool b P (¬ P)
+abbrev pub Emits : Bool → Type 0 → Type 0
+Emits b P = MatchBool b P (¬ P)
 
-tells_or : (P Q : Type 0) (x y : Bool) → Tells x P → Tells y Q → Tells (x || y) (P ⊎ Q)
-tells_or P Q true y p q = inl p
-tells_or P Q false true p q = inr q
-tells_or P Q false false p q = elim [ inl h ↦ p h | inr h ↦ q h ]
+emits_or : (P Q : Type 0) (x y : Bool) → Emits x P → Emits y Q → Emits (x || y) (P ⊎ Q)
+emits_or P Q true y p q = inl p
+emits_or P Q false true p q = inr q
+emits_or P Q false false p q = elim [ inl h ↦ p h | inr h ↦ q h ]
 
 denies_or : (P Q : Type 0) (x y : Bool) → Denies x P → Denies y Q → Denies (x || y) (P × Q)
 denies_or P Q true y p q = λ h. p h.0
 denies_or P Q false true p q = λ h. q h.1
 denies_or P Q false false p q = (p, q)
 
-denies_both : (P Q : Type 0) (x y : Bool) → Tells x P → Tells y Q → Denies (x && y) (P → ¬ Q)
+denies_both : (P Q : Type 0) (x y : Bool) → Emits x P → Emits y Q → Denies (x && y) (P → ¬ Q)
 denies_both P Q true true p q = λ h. h p q
 denies_both P Q true false p q = λ h. q
 denies_both P Q false y p q = λ h. absurd (p h)
@@ -38,18 +38,18 @@ denies_like : (P Q : Type 0) (x : Bool) → (P → Q) → (Q → P) → Denies x
 denies_like P Q true f g h = λ q. h (g q)
 denies_like P Q false f g h = f h
 
-tells_same : (n k : ℕ) → Tells (nat_eq n k) (n ≡ k)
-tells_same n k = elim (eqb_tells n k) [ inl h ↦ rw h.0 h.1 | inr h ↦ rw h.0 h.1 ]
+emits_same : (n k : ℕ) → Emits (nat_eq n k) (n ≡ k)
+emits_same n k = elim (eqb_tells n k) [ inl h ↦ rw h.0 h.1 | inr h ↦ rw h.0 h.1 ]
 
 mutual
-  pub tells_binds : (k : ℕ) (t : Uses) → Tells (binds k t) (Binds k t)
-  tells_binds k (name_use n m) = tells_same n k
-  tells_binds k (product ps) = tells_some k ps
-  tells_binds k (alternatives ps) = tells_some k ps
+  pub emits_binds : (k : ℕ) (t : Uses) → Emits (binds k t) (Binds k t)
+  emits_binds k (name_use n m) = emits_same n k
+  emits_binds k (product ps) = emits_some k ps
+  emits_binds k (alternatives ps) = emits_some k ps
 
-  pub tells_some : (k : ℕ) (ps : Parts) → Tells (binds_some k ps) (BindsInSome k ps)
-  tells_some k no_parts = λ h. h
-  tells_some k (more_parts p ps) = tells_or (Binds k p) (BindsInSome k ps) (binds k p) (binds_some k ps) (tells_binds k p) (tells_some k ps)
+  pub emits_some : (k : ℕ) (ps : Parts) → Emits (binds_some k ps) (BindsInSome k ps)
+  emits_some k no_parts = λ h. h
+  emits_some k (more_parts p ps) = emits_or (Binds k p) (BindsInSome k ps) (binds k p) (binds_some k ps) (emits_binds k p) (emits_some k ps)
 
 -- of a product: each part is right, and the first shares the name with none of the rest
 once_in : (A B C N : Type 0) (x y z : Bool) → Denies x A → Denies y (N × B) → Denies z C → Denies ((x || y) || z) ((C × N) × (A × B))
@@ -67,7 +67,7 @@ mutual
   denies_once_in k no_parts = (tt, tt)
   denies_once_in k (more_parts p ps) = once_in (BindsOnce k p) (BindsOnceInEach k ps) (Binds k p → ¬ BindsInSome k ps)
       (BindsInOneAtMost k ps) (twice k p) (twice_in k ps) (binds k p && binds_some k ps) (denies_once k p) (denies_once_in k ps)
-      (denies_both (Binds k p) (BindsInSome k ps) (binds k p) (binds_some k ps) (tells_binds k p) (tells_some k ps))
+      (denies_both (Binds k p) (BindsInSome k ps) (binds k p) (binds_some k ps) (emits_binds k p) (emits_some k ps))
 
   denies_once_each : (k : ℕ) (ps : Parts) → Denies (twice_each k ps) (BindsOnceInEach k ps)
   denies_once_each k no_parts = tt
@@ -79,17 +79,17 @@ abbrev Alike : Bool → ℕ → Parts → Type 0
 Alike true k ps = BindsInEach k ps
 Alike false k ps = ¬ BindsInSome k ps
 
-denies_alike : (P : Type 0) (some b : Bool) → Tells b P → Denies (differ some b) (Tells some P)
+denies_alike : (P : Type 0) (some b : Bool) → Emits b P → Denies (differ some b) (Emits some P)
 denies_alike P true true p = p
 denies_alike P true false p = p
 denies_alike P false true p = λ h. h p
 denies_alike P false false p = p
 
-alike_more : (some : Bool) (k : ℕ) (p : Uses) (ps : Parts) → Tells some (Binds k p) → Alike some k ps → Alike some k (more_parts p ps)
+alike_more : (some : Bool) (k : ℕ) (p : Uses) (ps : Parts) → Emits some (Binds k p) → Alike some k ps → Alike some k (more_parts p ps)
 alike_more true k p ps h hs = (h, hs)
 alike_more false k p ps h hs = elim [ inl x ↦ h x | inr x ↦ hs x ]
 
-alike_first : (some : Bool) (k : ℕ) (p : Uses) (ps : Parts) → Alike some k (more_parts p ps) → Tells some (Binds k p)
+alike_first : (some : Bool) (k : ℕ) (p : Uses) (ps : Parts) → Alike some k (more_parts p ps) → Emits some (Binds k p)
 alike_first true k p ps h = h.0
 alike_first false k p ps h = λ x. h (inl x)
 
@@ -113,7 +113,7 @@ some_as_before : (some b : Bool) → differ some b ≡ false → (some || b) ≡
 some_as_before true b e = refl
 some_as_before false b e = e
 
-across_first : (x b : Bool) (k : ℕ) (p : Uses) (ps : Parts) (y : Bool) → Denies x (BindsAcrossAll k p) → Tells b (Binds k p) →
+across_first : (x b : Bool) (k : ℕ) (p : Uses) (ps : Parts) (y : Bool) → Denies x (BindsAcrossAll k p) → Emits b (Binds k p) →
     Denies y (Alike b k ps × BindsAcrossAllInEach k ps) →
     Denies (x || y) ((BindsInEach k (more_parts p ps) ⊎ (¬ BindsInSome k (more_parts p ps))) × BindsAcrossAllInEach k (more_parts p ps))
 across_first true b k p ps y h g f = λ r. h r.1.0
@@ -122,16 +122,16 @@ across_first false false k p ps true h g f = λ r. elim r.0 [ inl e ↦ g e.0 | 
 across_first false true k p ps false h g f = (inl (g, f.0), (h, f.1))
 across_first false false k p ps false h g f = (inr (elim [ inl x ↦ g x | inr x ↦ f.0 x ]), (h, f.1))
 
-across_later : (some b : Bool) (k : ℕ) (p : Uses) (ps : Parts) (x : Bool) → Denies x (BindsAcrossAll k p) → Tells b (Binds k p) →
+across_later : (some b : Bool) (k : ℕ) (p : Uses) (ps : Parts) (x : Bool) → Denies x (BindsAcrossAll k p) → Emits b (Binds k p) →
     Denies (partly_later k some ps) (Alike some k ps × BindsAcrossAllInEach k ps) →
     Denies ((x || differ some b) || partly_later k (some || b) ps)
     (Alike some k (more_parts p ps) × BindsAcrossAllInEach k (more_parts p ps))
-across_later some b k p ps x h g f = denies_like ((Tells some (Binds k p) × Alike some k ps) ×
+across_later some b k p ps x h g f = denies_like ((Emits some (Binds k p) × Alike some k ps) ×
     (BindsAcrossAll k p × BindsAcrossAllInEach k ps)) (Alike some k (more_parts p ps) × BindsAcrossAllInEach k (more_parts p ps))
     ((x || differ some b) || partly_later k (some || b) ps)
     (λ r. (alike_more some k p ps r.0.0 r.0.1, (r.1.0, r.1.1)))
     (λ r. ((alike_first some k p ps r.0, alike_rest some k p ps r.0), (r.1.0, r.1.1)))
-    (later_more (BindsAcrossAll k p) (BindsAcrossAllInEach k ps) (Alike some k ps) (Tells some (Binds k p)) x (differ some b)
+    (later_more (BindsAcrossAll k p) (BindsAcrossAllInEach k ps) (Alike some k ps) (Emits some (Binds k p)) x (differ some b)
     (partly_later k some ps) (partly_later k (some || b) ps) h (denies_alike (Binds k p) some b g)
     (λ e. ap (λ c. partly_later k c ps) (some_as_before some b e)) f)
 
@@ -150,11 +150,11 @@ mutual
       ((BindsInEach k ps ⊎ (¬ BindsInSome k ps)) × BindsAcrossAllInEach k ps)
   denies_across_first k no_parts = (inl tt, tt)
   denies_across_first k (more_parts p ps) = across_first (partly k p) (binds k p) k p ps (partly_later k (binds k p) ps)
-      (denies_across k p) (tells_binds k p) (denies_across_later k (binds k p) ps)
+      (denies_across k p) (emits_binds k p) (denies_across_later k (binds k p) ps)
 
   denies_across_later : (k : ℕ) (some : Bool) (ps : Parts) → Denies (partly_later k some ps) (Alike some k ps × BindsAcrossAllInEach k ps)
   denies_across_later k some no_parts = (alike_none some k, tt)
-  denies_across_later k some (more_parts p ps) = across_later some (binds k p) k p ps (partly k p) (denies_across k p) (tells_binds k p)
+  denies_across_later k some (more_parts p ps) = across_later some (binds k p) k p ps (partly k p) (denies_across k p) (emits_binds k p)
       (denies_across_later k some ps)
 
 -- the modes are those of the uses
@@ -174,17 +174,17 @@ in_either : (m : BindingAnnotation) (ms ls : List BindingAnnotation) → IsIn m 
 in_either m [] ls h = inr h
 in_either m (x ∷ ms) ls h = elim h [ inl e ↦ inl (inl e) | inr r ↦ elim (in_either m ms ls r) [ inl a ↦ inl (inr a) | inr b ↦ inr b ] ]
 
-in_use : (same : Bool) (P : Type 0) (l m : BindingAnnotation) → Tells same P → P × (l ≡ m) → IsIn m (if same then l ∷ [] else [])
+in_use : (same : Bool) (P : Type 0) (l m : BindingAnnotation) → Emits same P → P × (l ≡ m) → IsIn m (if same then l ∷ [] else [])
 in_use true P l m t h = inl h.1
 in_use false P l m t h = t h.0
 
-of_use : (same : Bool) (P : Type 0) (l m : BindingAnnotation) → Tells same P → IsIn m (if same then l ∷ [] else []) → P × (l ≡ m)
+of_use : (same : Bool) (P : Type 0) (l m : BindingAnnotation) → Emits same P → IsIn m (if same then l ∷ [] else []) → P × (l ≡ m)
 of_use true P l m t h = elim h [ inl e ↦ (t, e) | inr r ↦ absurd r ]
 of_use false P l m t h = absurd h
 
 mutual
   in_modes : (k : ℕ) (m : BindingAnnotation) (t : Uses) → BindsAs k m t → IsIn m (modes k t)
-  in_modes k m (name_use n l) h = in_use (nat_eq n k) (n ≡ k) l m (tells_same n k) h
+  in_modes k m (name_use n l) h = in_use (nat_eq n k) (n ≡ k) l m (emits_same n k) h
   in_modes k m (product ps) h = in_modes_of k m ps h
   in_modes k m (alternatives ps) h = in_modes_of k m ps h
 
@@ -197,7 +197,7 @@ mutual
 
 mutual
   of_modes : (k : ℕ) (m : BindingAnnotation) (t : Uses) → IsIn m (modes k t) → BindsAs k m t
-  of_modes k m (name_use n l) h = of_use (nat_eq n k) (n ≡ k) l m (tells_same n k) h
+  of_modes k m (name_use n l) h = of_use (nat_eq n k) (n ≡ k) l m (emits_same n k) h
   of_modes k m (product ps) h = of_modes_of k m ps h
   of_modes k m (alternatives ps) h = of_modes_of k m ps h
 
@@ -206,26 +206,26 @@ mutual
   of_modes_of k m (more_parts p ps) h = elim (in_either m (modes k p) (modes_of k ps) h)
       [ inl x ↦ inl (of_modes k m p x) | inr x ↦ inr (of_modes_of k m ps x) ]
 
-tells_mode : (m l : BindingAnnotation) → Tells (same_mode m l) (m ≡ l)
-tells_mode Unannotated Unannotated = refl
-tells_mode Mutable Mutable = refl
-tells_mode Ref Ref = refl
-tells_mode RefMut RefMut = refl
-tells_mode _ _ = λ e. cc
+emits_mode : (m l : BindingAnnotation) → Emits (same_mode m l) (m ≡ l)
+emits_mode Unannotated Unannotated = refl
+emits_mode Mutable Mutable = refl
+emits_mode Ref Ref = refl
+emits_mode RefMut RefMut = refl
+emits_mode _ _ = λ e. cc
 
 -- all of the modes are the first
 abbrev AreAll : BindingAnnotation → List BindingAnnotation → Type 0
 AreAll f [] = Unit {0}
 AreAll f (m ∷ ms) = (f ≡ m) × AreAll f ms
 
-denies_not : (P : Type 0) (b : Bool) → Tells b P → Denies (not b) P
+denies_not : (P : Type 0) (b : Bool) → Emits b P → Denies (not b) P
 denies_not P true h = h
 denies_not P false h = h
 
 denies_all : (f : BindingAnnotation) (ms : List BindingAnnotation) → Denies (clash (Some f) ms) (AreAll f ms)
 denies_all f [] = tt
 denies_all f (m ∷ ms) = denies_or (f ≡ m) (AreAll f ms) (not (same_mode f m)) (clash (Some f) ms)
-    (denies_not (f ≡ m) (same_mode f m) (tells_mode f m)) (denies_all f ms)
+    (denies_not (f ≡ m) (same_mode f m) (emits_mode f m)) (denies_all f ms)
 
 all_are : (f m : BindingAnnotation) (ms : List BindingAnnotation) → AreAll f ms → IsIn m ms → f ≡ m
 all_are f m [] h i = absurd i

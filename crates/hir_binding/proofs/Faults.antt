@@ -18,13 +18,13 @@ pub record IsKept (old new : Option BindingProblems) (i t p : Bool) : Type 0 whe
   pub once : t ≡ false
   pub across_all : p ≡ false
 
-pub record IsNoted (new : Option BindingProblems) (i t p : Bool) : Type 0 where
+pub record IsTracked (new : Option BindingProblems) (i t p : Bool) : Type 0 where
   pub which : BindingProblems
-  pub noted : new ≡ Some which
+  pub tracked : new ≡ Some which
   pub fault : at_fault which i t p ≡ true
 
 abbrev pub Outcome : Option BindingProblems → Option BindingProblems → Bool → Bool → Bool → Type 0
-Outcome old new i t p = IsKept old new i t p ⊎ IsNoted new i t p
+Outcome old new i t p = IsKept old new i t p ⊎ IsTracked new i t p
 
 or_right : (a b : Bool) → b ≡ true → a || b ≡ true
 or_right true b e = refl
@@ -52,9 +52,9 @@ fault_left NotBoundAcrossAll i t p i' t' p' e = or_left p p' e
 pub in_turn : {a b c : Option BindingProblems} {i t p i' t' p' : Bool} → Outcome a b i t p → Outcome b c i' t' p' →
     Outcome a c (i || i') (t || t') (p || p')
 in_turn {i = i} {t = t} {p = p} {i' = i'} {t' = t'} {p' = p'} x (inr n) =
-    inr (record { which = n.which; noted = n.noted; fault = fault_right n.which i t p i' t' p' n.fault })
+    inr (record { which = n.which; tracked = n.tracked; fault = fault_right n.which i t p i' t' p' n.fault })
 in_turn {i = i} {t = t} {p = p} {i' = i'} {t' = t'} {p' = p'} (inr n) (inl k) =
-    inr (record { which = n.which; noted = k.kept ∙ n.noted; fault = fault_left n.which i t p i' t' p' n.fault })
+    inr (record { which = n.which; tracked = k.kept ∙ n.tracked; fault = fault_left n.which i t p i' t' p' n.fault })
 in_turn {i = i} {t = t} {p = p} {i' = i'} {t' = t'} {p' = p'} (inl k) (inl l) =
     inl (record {
       kept = l.kept ∙ k.kept;

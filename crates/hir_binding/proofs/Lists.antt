@@ -10,7 +10,7 @@ use Rattle.hir_binding.specs.declared.binding.Mark.{Mark}
 use Rattle.hir_binding.specs.declared.binding.Mark.TheVariants.{Unseen, Missing, Unmarked, Marked}
 use Rattle.hir_binding.specs.declared.list.Entry.{Entry}
 use Rattle.hir_binding.specs.declared.seen.SeenNames.{SeenNames}
-use Rattle.hir_binding.specs.Steps.{over_recent, Set, Noted, seen, entered, left, left_to, seen_if, problem_at_end}
+use Rattle.hir_binding.specs.Steps.{over_recent, Set, Tracked, seen, enter_first, left, left_to, seen_if, problem_at_end}
 use Rattle.hir_binding.specs.Seen.{set_of, mark_at, no_set}
 use Rattle.hir_binding.specs.Entries.{ended_entry}
 use Rattle.hir_binding.specs.Bindings.{mode_of, problem_of, is_seen, seen_at}
@@ -20,11 +20,11 @@ pub sets_push : (k : ℕ) (xs ys : List SeenNames) (s : SeenNames) → ys ≡ xs
     map (λ s. set_of s k) (reverse ys) ≡ set_of s k ∷ map (λ s. set_of s k) (reverse xs)
 sets_push k xs ys s e = rw e (ap (λ l. map (λ (s : SeenNames). set_of s k) l) (reverse-append xs (s ∷ [])))
 
-abbrev Parts : Option BindingAnnotation → Option BindingProblems → Set → List Set → Noted
+abbrev Parts : Option BindingAnnotation → Option BindingProblems → Set → List Set → Tracked
 Parts m p here outer = record { mode = m; problem = p; here = here; outer = outer }
 
 pub entered_is : (m : Option BindingAnnotation) (p : Option BindingProblems) (here here' : Set) (outer outer' : List Set) →
-    here' ≡ no_set → outer' ≡ here ∷ outer → Parts m p here' outer' ≡ entered (Parts m p here outer)
+    here' ≡ no_set → outer' ≡ here ∷ outer → Parts m p here' outer' ≡ enter_first (Parts m p here outer)
 entered_is m p here here' outer outer' e f = rw (e, f) refl
 
 -- what the end of an alternative makes of an entry
@@ -40,7 +40,7 @@ problem_ended Unmarked None h = absurd (h (λ e. cc) refl)
 problem_ended Marked None h = refl
 problem_ended m (Some e) h = refl
 
-left_back : (m : Mark) (s : Noted) → seen_at (is_seen m) s ≡ seen_if m s
+left_back : (m : Mark) (s : Tracked) → seen_at (is_seen m) s ≡ seen_if m s
 left_back Unseen s = refl
 left_back Missing s = refl
 left_back Unmarked s = refl
@@ -58,22 +58,22 @@ before_end xs n previous start k None e h = refl
 before_end xs n previous start k (Some p) e h = rw (e, lt-ltb p (length xs) (h p refl))
     (seen_either (nat_lt p previous) (nat_lt p start))
 
--- out of an or-pattern, but for the use of its name
-pub closed : (old : Noted) (m : Option BindingAnnotation) (p : Option BindingProblems) (around : Set) (outer : List Set) →
+-- out of an or-pattern, except for the use of its name
+pub closed : (old : Tracked) (m : Option BindingAnnotation) (p : Option BindingProblems) (around : Set) (outer : List Set) →
     m ≡ old.mode → p ≡ problem_at_end old.here.mark over_recent old.problem → old.outer ≡ around ∷ outer →
     left over_recent old ≡ seen_at (is_seen old.here.mark) (Parts m p around outer)
 closed old m p around outer e f g = ap (λ l. left_to over_recent l old) g ∙ rw (e, f) (sym (left_back old.here.mark _))
 
 -- one turn sees the name whose last place it is
-pub seen_step : (n name k : ℕ) (o : Option ℕ) (s x y : Noted) → y ≡ seen_at (nat_eq name k) x → x ≡ seen_at (is_before n o) s →
+pub seen_step : (n name k : ℕ) (o : Option ℕ) (s x y : Tracked) → y ≡ seen_at (nat_eq name k) x → x ≡ seen_at (is_before n o) s →
     (name ≡ k → o ≡ Some n) → (o ≡ Some n → name ≡ k) → y ≡ seen_at (is_before (n + 1) o) s
 seen_step n name k o s x y e f t u = elim (eqb_tells name k) [
-  | inl h ↦ e ∙ (rw (h.0, is_before-last n o (t h.1)) (ap (λ (z : Noted). seen z)
+  | inl h ↦ e ∙ (rw (h.0, is_before-last n o (t h.1)) (ap (λ (z : Tracked). seen z)
       (let g : x ≡ s = f ∙ ap (λ (b : Bool). seen_at b s) (not_before-last n o (t h.1)) in g)))
   | inr h ↦ e ∙ (rw (h.0, is_before-next n o (λ g. h.1 (u g))) f)
 ]
 
-pub seen_not : (n k : ℕ) (o : Option ℕ) (s x : Noted) → x ≡ seen_at (is_before n o) s → (o ≡ Some n → ⊥) →
+pub seen_not : (n k : ℕ) (o : Option ℕ) (s x : Tracked) → x ≡ seen_at (is_before n o) s → (o ≡ Some n → ⊥) →
     x ≡ seen_at (is_before (n + 1) o) s
 seen_not n k o s x f h = rw (is_before-next n o h) f
 

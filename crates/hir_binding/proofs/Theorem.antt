@@ -4,7 +4,7 @@ use Rattle.hir_binding.specs.declared.binding.BindingProblems.{BindingProblems}
 use Rattle.hir_binding.specs.declared.binding.BindingProblems.TheVariants.{BoundMoreThanOnce, BoundInconsistently, NotBoundAcrossAll}
 use Rattle.hir_binding.specs.Uses.{Uses}
 use Rattle.hir_binding.specs.Rule.{IsTrueOf, HasOneMode, BindsOnce, BindsAcrossAll, Shows}
-use Rattle.hir_binding.specs.Steps.{over_all, over_recent, fresh, shown}
+use Rattle.hir_binding.specs.Steps.{over_all, over_recent, no_use, shown}
 use Rattle.hir_binding.proofs.Summary.{binds, modes, twice, partly, clash}
 use Rattle.hir_binding.proofs.Faults.{Outcome, outcome_at, at_fault}
 use Rattle.hir_binding.proofs.Walks.{walk}
@@ -31,7 +31,7 @@ nothing_more false true = refl
 nothing_more false false = refl
 
 outcome : (k : ℕ) (t : Uses) → Outcome None (shown over_all k t) (clash None (modes k t)) (twice k t) (partly k t)
-outcome k t = outcome_at (walk k t fresh).problem refl (nothing_more (twice k t) (binds k t)) (nothing_more (partly k t) (binds k t))
+outcome k t = outcome_at (walk k t no_use).problem refl (nothing_more (twice k t) (binds k t)) (nothing_more (partly k t) (binds k t))
 
 shows_over_all : (k : ℕ) (t : Uses) → Shows (shown over_all k t) k t
 shows_over_all k t = elim (outcome k t) [
@@ -40,7 +40,7 @@ shows_over_all k t = elim (outcome k t) [
     once = holds_at _ (denies_once k t) h.once;
     across_all = holds_at _ (denies_across k t) h.across_all;
   })
-  | inr h ↦ rw h.noted (true_of h.which k t _ _ _ (denies_one_mode k t) (denies_once k t) (denies_across k t) h.fault)
+  | inr h ↦ rw h.tracked (true_of h.which k t _ _ _ (denies_one_mode k t) (denies_once k t) (denies_across k t) h.fault)
 ]
 
 pub shows : (k : ℕ) (t : Uses) → Shows (shown over_recent k t) k t

@@ -6,7 +6,7 @@ use Rattle.hir_binding.specs.declared.binding.Mark.{Mark}
 use Rattle.hir_binding.specs.declared.binding.Mark.TheVariants.{Unseen, Missing, Unmarked, Marked}
 use Rattle.hir_binding.specs.declared.list.Entry.{Entry}
 use Rattle.hir_binding.specs.declared.list.BindingList.{BindingList}
-use Rattle.hir_binding.specs.Steps.{Noted, problem_of_mark, seen, moded}
+use Rattle.hir_binding.specs.Steps.{Tracked, problem_of_mark, seen, set_mode}
 use Rattle.hir_binding.specs.Seen.{set_of}
 
 abbrev pub mode_of : Option Entry → Option BindingAnnotation
@@ -17,8 +17,8 @@ abbrev pub problem_of : Option Entry → Option BindingProblems
 problem_of None = None
 problem_of (Some e) = e.problem
 
-abbrev pub noted : BindingList → ℕ → Noted
-noted b k = record {
+abbrev pub tracked : BindingList → ℕ → Tracked
+tracked b k = record {
   mode = mode_of (slice_get b.entries.items k);
   problem = problem_of (slice_get b.entries.items k);
   here = set_of b.here k;
@@ -43,11 +43,11 @@ is_seen Unmarked = true
 is_seen Marked = true
 
 -- what a use in the set at hand shows, before it is marked
-abbrev pub problem_seen_at : Bool → Noted → Noted
+abbrev pub problem_seen_at : Bool → Tracked → Tracked
 problem_seen_at b s = if b then record s { problem = problem_of_mark s.here.mark s.here.later s.problem } else s
 
-abbrev pub seen_at : Bool → Noted → Noted
+abbrev pub seen_at : Bool → Tracked → Tracked
 seen_at b s = if b then seen s else s
 
-abbrev pub moded_at : Bool → BindingAnnotation → Noted → Noted
-moded_at b m s = if b then moded m s else s
+abbrev pub moded_at : Bool → BindingAnnotation → Tracked → Tracked
+moded_at b m s = if b then set_mode m s else s

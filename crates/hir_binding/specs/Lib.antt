@@ -1,7 +1,7 @@
 pub mod Uses
 pub mod Rule
 pub mod Steps
-pub mod Laws
+pub mod Theorems
 pub mod Seen
 pub mod Bindings
 pub mod Entries

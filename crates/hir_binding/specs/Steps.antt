@@ -28,15 +28,15 @@ pub record Set : Type 0 where
   pub later : Bool
 
 -- the mode of the first use, the problem, and the set at hand inside the others
-pub record Noted : Type 0 where
+pub record Tracked : Type 0 where
   pub mode : Option BindingAnnotation
   pub problem : Option BindingProblems
   pub here : Set
   pub outer : List Set
 
 -- a name that has no use yet, in these sets
-abbrev pub fresh : Noted
-fresh = record { mode = None; problem = None; here = record { mark = Unseen; later = false }; outer = [] }
+abbrev pub no_use : Tracked
+no_use = record { mode = None; problem = None; here = record { mark = Unseen; later = false }; outer = [] }
 
 abbrev pub problem_of_mark : Mark → Bool → Option BindingProblems → Option BindingProblems
 problem_of_mark Marked later p = Some BoundMoreThanOnce
@@ -46,7 +46,7 @@ problem_of_mark Missing later p = p
 problem_of_mark Unmarked later p = p
 
 -- a use in the set at hand, whatever its mode
-abbrev pub seen : Noted → Noted
+abbrev pub seen : Tracked → Tracked
 seen s = record s {
   problem = problem_of_mark s.here.mark s.here.later s.problem;
   here = record { mark = Marked; later = s.here.later };
@@ -56,16 +56,16 @@ abbrev pub problem_of_mode : Option BindingAnnotation → BindingAnnotation → 
 problem_of_mode first m p = if same_mode (unwrap_or first m) m then p else Some BoundInconsistently
 
 -- the first use gives the name its mode
-abbrev pub moded : BindingAnnotation → Noted → Noted
-moded m s = record s { mode = Some (unwrap_or s.mode m); problem = problem_of_mode s.mode m s.problem }
+abbrev pub set_mode : BindingAnnotation → Tracked → Tracked
+set_mode m s = record s { mode = Some (unwrap_or s.mode m); problem = problem_of_mode s.mode m s.problem }
 
 -- a use of the name with this mode
-abbrev pub used : BindingAnnotation → Noted → Noted
-used m s = seen (moded m s)
+abbrev pub used : BindingAnnotation → Tracked → Tracked
+used m s = seen (set_mode m s)
 
 -- into the first alternative of an or-pattern
-abbrev pub entered : Noted → Noted
-entered s = record s { here = record { mark = Unseen; later = false }; outer = s.here ∷ s.outer }
+abbrev pub enter_first : Tracked → Tracked
+enter_first s = record s { here = record { mark = Unseen; later = false }; outer = s.here ∷ s.outer }
 
 -- a later alternative that leaves a name of its set unmarked
 abbrev pub problem_at_end : Mark → Ends → Option BindingProblems → Option BindingProblems
@@ -83,47 +83,47 @@ unmark Unmarked = Missing
 unmark Marked = Unmarked
 
 -- from one alternative to the next
-abbrev pub next : Ends → Noted → Noted
+abbrev pub next : Ends → Tracked → Tracked
 next ends s = record s {
   problem = problem_at_end s.here.mark ends s.problem;
   here = record { mark = unmark s.here.mark; later = true };
 }
 
 -- a name of the set that is left is one use in the set around it, modes untested
-abbrev pub seen_if : Mark → Noted → Noted
+abbrev pub seen_if : Mark → Tracked → Tracked
 seen_if Unseen s = s
 seen_if Missing s = seen s
 seen_if Unmarked s = seen s
 seen_if Marked s = seen s
 
-abbrev pub left_to : Ends → List Set → Noted → Noted
+abbrev pub left_to : Ends → List Set → Tracked → Tracked
 left_to ends [] s = s
 left_to ends (set ∷ sets) s =
     seen_if s.here.mark (record s { problem = problem_at_end s.here.mark ends s.problem; here = set; outer = sets })
 
 -- out of an or-pattern
-abbrev pub left : Ends → Noted → Noted
+abbrev pub left : Ends → Tracked → Tracked
 left ends s = left_to ends s.outer s
 
 -- the steps over a pattern; an or-pattern without alternatives is passed over
 abbrev mutual
-  pub after : Ends → ℕ → Uses → Noted → Noted
+  pub after : Ends → ℕ → Uses → Tracked → Tracked
   after ends k (name_use n m) s = if nat_eq n k then used m s else s
   after ends k (product ps) s = after_parts ends k ps s
   after ends k (alternatives ps) s = after_alternatives ends k ps s
 
-  pub after_parts : Ends → ℕ → Parts → Noted → Noted
+  pub after_parts : Ends → ℕ → Parts → Tracked → Tracked
   after_parts ends k no_parts s = s
   after_parts ends k (more_parts p ps) s = after_parts ends k ps (after ends k p s)
 
-  pub after_alternatives : Ends → ℕ → Parts → Noted → Noted
+  pub after_alternatives : Ends → ℕ → Parts → Tracked → Tracked
   after_alternatives ends k no_parts s = s
-  after_alternatives ends k (more_parts p ps) s = left ends (after_later ends k ps (after ends k p (entered s)))
+  after_alternatives ends k (more_parts p ps) s = left ends (after_later ends k ps (after ends k p (enter_first s)))
 
-  pub after_later : Ends → ℕ → Parts → Noted → Noted
+  pub after_later : Ends → ℕ → Parts → Tracked → Tracked
   after_later ends k no_parts s = s
   after_later ends k (more_parts p ps) s = after_later ends k ps (after ends k p (next ends s))
 
 -- the problem that is shown for the name with this number
 abbrev pub shown : Ends → ℕ → Uses → Option BindingProblems
-shown ends k t = (after ends k t fresh).problem
+shown ends k t = (after ends k t no_use).problem

@@ -5,6 +5,6 @@
 #![tactic(auto)]
 
 pub mod binding;
-pub mod laws;
 pub mod list;
 pub mod seen;
+pub mod theorems;

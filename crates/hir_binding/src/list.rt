@@ -43,12 +43,12 @@ impl Drop for BindingList {
 impl BindingList {
     ghost use Rattle.hir_binding.specs.Uses.{Uses, name_use};
     ghost use Rattle.hir_binding.specs.Rule.{Shows};
-    ghost use Rattle.hir_binding.specs.Steps.{over_all, over_recent, fresh, entered, next, left, after, shown};
-    ghost use Rattle.hir_binding.specs.Bindings.{noted, name_count, count_with, depth, is_seen, problem_seen_at, seen_at, moded_at};
+    ghost use Rattle.hir_binding.specs.Steps.{over_all, over_recent, no_use, enter_first, next, left, after, shown};
+    ghost use Rattle.hir_binding.specs.Bindings.{tracked, name_count, count_with, depth, is_seen, problem_seen_at, seen_at, moded_at};
 
     /// No name has a use, and no or-pattern is open.
     pub fn new(alloc: Global) -> BindingList
-        ensures noted { (k : ℕ) → noted result k ≡ fresh }
+        ensures tracked { (k : ℕ) → tracked result k ≡ no_use }
         ensures count { name_count result ≡ 0 }
         ensures depth { depth result ≡ 0 }
     {
@@ -60,9 +60,9 @@ impl BindingList {
     }
 
     /// Notes the mode of a use.
-    fn note_mode(&mut self, name: usize, mode: BindingAnnotation) -> Result<(), AllocError>
+    fn track_mode(&mut self, name: usize, mode: BindingAnnotation) -> Result<(), AllocError>
         requires { name ≤ name_count self.old }
-        ensures noted { OnOk result ((k : ℕ) → noted self.new k ≡ moded_at (nat_eq name k) mode (noted self.old k)) }
+        ensures tracked { OnOk result ((k : ℕ) → tracked self.new k ≡ moded_at (nat_eq name k) mode (tracked self.old k)) }
         ensures count { OnOk result (name_count self.new ≡ count_with name (name_count self.old)) }
         ensures known { OnOk result (name < name_count self.new) }
         ensures depth { depth self.new ≡ depth self.old }
@@ -79,9 +79,9 @@ impl BindingList {
     }
 
     /// Notes what a use in the set at hand shows, whatever its mode.
-    fn note_problem(&mut self, name: usize)
+    fn track_problem(&mut self, name: usize)
         requires { name < name_count self.old }
-        ensures noted { (k : ℕ) → noted self.new k ≡ problem_seen_at (nat_eq name k) (noted self.old k) }
+        ensures tracked { (k : ℕ) → tracked self.new k ≡ problem_seen_at (nat_eq name k) (tracked self.old k) }
         ensures count { name_count self.new ≡ name_count self.old }
         ensures depth { depth self.new ≡ depth self.old }
     {
@@ -102,29 +102,29 @@ impl BindingList {
     /// Notes a use in the set at hand, whatever its mode.
     fn see(&mut self, name: usize) -> Result<(), AllocError>
         requires { name < name_count self.old }
-        ensures noted { OnOk result ((k : ℕ) → noted self.new k ≡ seen_at (nat_eq name k) (noted self.old k)) }
+        ensures tracked { OnOk result ((k : ℕ) → tracked self.new k ≡ seen_at (nat_eq name k) (tracked self.old k)) }
         ensures count { name_count self.new ≡ name_count self.old }
         ensures depth { depth self.new ≡ depth self.old }
     {
-        self.note_problem(name);
+        self.track_problem(name);
         self.here.mark(name)
     }
 
     /// A use of the name with this number, in this mode. A name that had none takes the next number.
     pub fn use_name(&mut self, name: usize, mode: BindingAnnotation) -> Result<(), AllocError>
         requires { name ≤ name_count self.old }
-        ensures noted { OnOk result ((k : ℕ) → noted self.new k ≡ after over_recent k (name_use name mode) (noted self.old k)) }
+        ensures tracked { OnOk result ((k : ℕ) → tracked self.new k ≡ after over_recent k (name_use name mode) (tracked self.old k)) }
         ensures count { OnOk result (name_count self.new ≡ count_with name (name_count self.old)) }
         ensures known { OnOk result (name < name_count self.new) }
         ensures depth { depth self.new ≡ depth self.old }
     {
-        self.note_mode(name, mode)?;
+        self.track_mode(name, mode)?;
         self.see(name)
     }
 
     /// Into the first alternative of an or-pattern.
     pub fn begin_or(&mut self) -> Result<(), AllocError>
-        ensures noted { OnOk result ((k : ℕ) → noted self.new k ≡ entered (noted self.old k)) }
+        ensures tracked { OnOk result ((k : ℕ) → tracked self.new k ≡ enter_first (tracked self.old k)) }
         ensures count { name_count self.new ≡ name_count self.old }
         ensures depth { OnOk result (depth self.new ≡ depth self.old + 1) }
     {
@@ -137,7 +137,7 @@ impl BindingList {
 
     /// From one alternative to the next.
     pub fn next_alternative(&mut self)
-        ensures noted { (k : ℕ) → noted self.new k ≡ next over_recent (noted self.old k) }
+        ensures tracked { (k : ℕ) → tracked self.new k ≡ next over_recent (tracked self.old k) }
         ensures count { name_count self.new ≡ name_count self.old }
         ensures depth { depth self.new ≡ depth self.old }
     {
@@ -148,7 +148,7 @@ impl BindingList {
     /// Closes the set of the innermost or-pattern, and answers it.
     fn close(&mut self) -> SeenNames
         requires { 0 < depth self.old }
-        ensures noted { (k : ℕ) → left over_recent (noted self.old k) ≡ seen_at (is_seen (mark_of result k)) (noted self.new k) }
+        ensures tracked { (k : ℕ) → left over_recent (tracked self.old k) ≡ seen_at (is_seen (mark_of result k)) (tracked self.new k) }
         ensures known { (k : ℕ) → mark_of result k ≢ Unseen → k < name_count self.new }
         ensures count { name_count self.new ≡ name_count self.old }
         ensures depth { depth self.new + 1 ≡ depth self.old }
@@ -161,7 +161,7 @@ impl BindingList {
     /// Out of an or-pattern: a name of its set is one use in the set around it.
     pub fn end_or(&mut self) -> Result<(), AllocError>
         requires { 0 < depth self.old }
-        ensures noted { OnOk result ((k : ℕ) → noted self.new k ≡ left over_recent (noted self.old k)) }
+        ensures tracked { OnOk result ((k : ℕ) → tracked self.new k ≡ left over_recent (tracked self.old k)) }
         ensures count { name_count self.new ≡ name_count self.old }
         ensures depth { depth self.new + 1 ≡ depth self.old }
     {
@@ -178,9 +178,9 @@ impl BindingList {
     /// that is true of it: of several the one that was found last.
     pub fn problem(&self, name: usize) -> Option<BindingProblems>
         requires { name < name_count self.now }
-        ensures noted { result ≡ (noted self.now name).problem }
-        ensures rule { (t : Uses) → noted self.now name ≡ after over_recent name t fresh → Shows result name t }
-        ensures last { (t : Uses) → noted self.now name ≡ after over_recent name t fresh → result ≡ shown over_all name t }
+        ensures tracked { result ≡ (tracked self.now name).problem }
+        ensures rule { (t : Uses) → tracked self.now name ≡ after over_recent name t no_use → Shows result name t }
+        ensures last { (t : Uses) → tracked self.now name ≡ after over_recent name t no_use → result ≡ shown over_all name t }
     {
         let entry = &self.entries[name];
         entry.problem

@@ -1,20 +1,23 @@
--- A path that may stand directly in a call of a macro is read as no less than elsewhere.
-use Rattle.std.proofs.Common.{arith, ℕ, ◌≤◌, Bool, true, false, Option, Some, None, List, [], ◌∷◌}
+-- A path that may stand directly in a macro call is read as no less than elsewhere.
+use Rattle.std.proofs.Common.{arith, ap, ℕ, ◌≤◌, Bool, true, false, Option, Some, None, List, [], ◌∷◌}
 use Rattle.std.specs.Prelude.{if◌then◌else◌}
 use Rattle.hir_store.specs.declared.ids.CrateId.{CrateId}
-use Rattle.hir_syntax.specs.declared.ast.Path.{Path as AstPath}
+use Rattle.hir_syntax.specs.declared.ast.Path.{Path as AstPath, out-Path}
 use Rattle.hir_syntax.specs.declared.ast.PathSegment.{PathSegment as AstPathSegment}
-use Rattle.hir_env.specs.declared.place.Place.{Place}
+use Rattle.hir_env.specs.declared.ctx.LowerCtx.{LowerCtx}
 use Rattle.hir_env.specs.Answers.{Answers}
-use Rattle.hir_env.specs.Answered as tree
-use Rattle.hir_env.specs.Answered.{Path, Segment, Segments}
+use Rattle.hir_env.specs.ResolvedTree as tree
+use Rattle.hir_env.specs.ResolvedTree.{Path, Segment, Segments}
 use Rattle.hir_env.specs.Count.{count_path}
 use Rattle.hir_env.specs.Folds.{reader}
 use Rattle.hir_env.specs.Layers.{Entering, Reader, written}
 use Rattle.hir_env.specs.LocalPaths.{at_local_root, behind_root, is_bare, local_root}
 use Rattle.hir_env.specs.PathNames.{mod_path_of}
 use Rattle.hir_env.specs.Paths as of
+use Rattle.hir_env.specs.ResolveCtx.{ResolveCtx}
 use Rattle.hir_env.specs.TypeLayers.{PathLayer}
+use Rattle.hir_env.specs.Whole.{resolved_path, resolved_use_tree, into}
+use Rattle.hir_env.proofs.PathLevels.{path_is_level, use_tree_is_level}
 
 one_counts : (b leading : Bool) (first : Segment) (rest : Segments) (root : Option CrateId)
     → let y = tree.path None leading first rest tree.no_path in
@@ -32,8 +35,8 @@ module _ (env : Answers) (into : Option Entering) where
   abbrev rd : Reader written
   rd = reader env into
 
-  called_counts : (in_macro leading : Bool) (ss : List (Option AstPathSegment)) (u : Option AstPath) (p : Place)
-      → let y = tree.path None leading (of.first_of rd.segment ss p) (of.rest_of rd.segment ss p) (of.path_or_none rd.path u p) in
+  called_counts : (in_macro leading : Bool) (ss : List (Option AstPathSegment)) (u : Option AstPath) (p : LowerCtx)
+      → let y = tree.path None leading (of.first_of rd.segment ss p) (of.rest_of rd.segment ss p) (of.path_or_none rd.use_tree u p) in
       count_path y ≤ count_path (of.called_path env rd in_macro leading ss u p y)
   called_counts false leading ss u p = omega (arith)
   called_counts true true [] None p = omega (arith)
@@ -51,7 +54,15 @@ module _ (env : Answers) (into : Option Entering) where
   alias_counts : (n : ℕ) (alias : Option (List Bool)) (y : Path) → n ≤ count_path y → n ≤ count_path (of.with_alias alias y)
   alias_counts n alias (tree.path _ leading first rest use_) h = h
 
-  pub path_counts : (x : PathLayer written) (p : Place) → count_path (of.plain_path env rd x p) ≤ count_path (of.path_step env rd x p)
+  pub path_counts : (x : PathLayer written) (p : LowerCtx) → count_path (of.plain_path env rd x p) ≤ count_path (of.path_step env rd x p)
   path_counts x p =
       let y = of.called_path env rd x.in_macro x.leading x.segs x.use_ p (of.plain_path env rd x p) in
       alias_counts (count_path (of.plain_path env rd x p)) (of.alias_at env p y) y (called_counts x.in_macro x.leading x.segs x.use_ p)
+
+-- as the use tree around another one it is read as no more than by itself
+pub use_tree_counts : (at : ResolveCtx) (x : AstPath) → count_path (resolved_use_tree at x) ≤ count_path (resolved_path at x)
+use_tree_counts at x =
+    let around = ap count_path (use_tree_is_level at x) in
+    let own = ap count_path (path_is_level at x) in
+    let more = path_counts at.answers (into at) (out-Path x) at.place in
+    omega (arith, around, own, more)

@@ -26,8 +26,8 @@ optional {A} {B} h x = (folds.map-Param
     (λ x. x) (λ x. x) (λ x. x) (λ x. x) (λ x. x) (λ x. x) (λ x. x) h
     (record { id = record { 0 = 0 }; range = record { start = 0; end = 0 }; pat = None; ty = x; variadic = false })).ty
 
-abbrev pub listed : {A B : Type 0} → (A → B) → List A → List B
-listed {A} {B} h xs = (seq.the_former (this {0})).map A B h xs
+abbrev pub map_list : {A B : Type 0} → (A → B) → List A → List B
+map_list {A} {B} h xs = (seq.the_former (this {0})).map A B h xs
 
 abbrev pub listed_options : {A B : Type 0} → (A → B) → List (Option A) → List (Option B)
 listed_options {A} {B} h xs = (folds.map-Path

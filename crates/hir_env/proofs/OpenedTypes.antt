@@ -2,7 +2,7 @@
 use Rattle.std.proofs.Common.{◌≡◌, ◌∙◌, ap, sym, Option}
 use Rattle.hir_syntax.specs.declared.ast.ElseBranch.TheFolds as folds
 use Rattle.hir_env.specs.Answers.{Answers}
-use Rattle.hir_env.specs.Spot.{ptr}
+use Rattle.hir_env.specs.ResolveCtx.{ptr}
 use Rattle.hir_env.specs.Layers.{readings, itself}
 use Rattle.hir_env.specs.Answering as of
 use Rattle.hir_env.specs.Paths as of_types
@@ -39,7 +39,7 @@ module _ (env : Answers) (into : Option Entering) where
       (of.else_branch env (itself into)) (of.kind_step env (itself into)) (of.stmt_kind env (itself into))
       (of_pats.pat_kind_step env (itself into)) (of_types.generic_arg_step env (itself into))
       (of_types.type_kind_step env (itself into)) (of.block_step env (itself into)) (of.expr_step env (itself into))
-      (of_types.path_step env (itself into)) (of_types.segment_step env (itself into)) (of.field_step env (itself into))
+      (of_types.path_reading env (itself into)) (of_types.segment_step env (itself into)) (of.field_step env (itself into))
       (of.record_step env (itself into)) (of.stmt_step env (itself into)) (of.arm_step env (itself into))
       (of.call_step env (itself into)) (of_pats.pat_step env (itself into)) (of_pats.pat_field_step env (itself into))
       (of_types.assoc_type_arg_step env (itself into)) (of_types.param_step env (itself into))
@@ -60,7 +60,7 @@ module _ (env : Answers) (into : Option Entering) where
       (of.else_branch env (itself into)) (of.kind_step env (itself into)) (of.stmt_kind env (itself into))
       (of_pats.pat_kind_step env (itself into)) (of_types.generic_arg_step env (itself into))
       (of_types.type_kind_step env (itself into)) (of.block_step env (itself into)) (of.expr_step env (itself into))
-      (of_types.path_step env (itself into)) (of_types.segment_step env (itself into)) (of.field_step env (itself into))
+      (of_types.path_reading env (itself into)) (of_types.segment_step env (itself into)) (of.field_step env (itself into))
       (of.record_step env (itself into)) (of.stmt_step env (itself into)) (of.arm_step env (itself into))
       (of.call_step env (itself into)) (of_pats.pat_step env (itself into)) (of_pats.pat_field_step env (itself into))
       (of_types.assoc_type_arg_step env (itself into)) (of_types.param_step env (itself into))
@@ -69,7 +69,7 @@ module _ (env : Answers) (into : Option Entering) where
       (out-TypeKind x)
 
   pub opened_path : (x : AstPath) → fold_path env into x
-      ≡ of_types.path_step env (itself into) (mapped_path env into (out-Path x))
+      ≡ of_types.path_reading env (itself into) (mapped_path env into (out-Path x))
   unfolding fold_else_branch fold_expr_kind fold_stmt_kind fold_pat_kind fold_generic_arg fold_type_kind fold_block fold_expr
       fold_path fold_segment fold_field fold_record fold_stmt fold_arm fold_call fold_pat fold_pat_field fold_assoc_type_arg
       fold_param fold_path_type fold_type_bound fold_type
@@ -81,7 +81,7 @@ module _ (env : Answers) (into : Option Entering) where
       (of.else_branch env (itself into)) (of.kind_step env (itself into)) (of.stmt_kind env (itself into))
       (of_pats.pat_kind_step env (itself into)) (of_types.generic_arg_step env (itself into))
       (of_types.type_kind_step env (itself into)) (of.block_step env (itself into)) (of.expr_step env (itself into))
-      (of_types.path_step env (itself into)) (of_types.segment_step env (itself into)) (of.field_step env (itself into))
+      (of_types.path_reading env (itself into)) (of_types.segment_step env (itself into)) (of.field_step env (itself into))
       (of.record_step env (itself into)) (of.stmt_step env (itself into)) (of.arm_step env (itself into))
       (of.call_step env (itself into)) (of_pats.pat_step env (itself into)) (of_pats.pat_field_step env (itself into))
       (of_types.assoc_type_arg_step env (itself into)) (of_types.param_step env (itself into))
@@ -102,7 +102,7 @@ module _ (env : Answers) (into : Option Entering) where
       (of.else_branch env (itself into)) (of.kind_step env (itself into)) (of.stmt_kind env (itself into))
       (of_pats.pat_kind_step env (itself into)) (of_types.generic_arg_step env (itself into))
       (of_types.type_kind_step env (itself into)) (of.block_step env (itself into)) (of.expr_step env (itself into))
-      (of_types.path_step env (itself into)) (of_types.segment_step env (itself into)) (of.field_step env (itself into))
+      (of_types.path_reading env (itself into)) (of_types.segment_step env (itself into)) (of.field_step env (itself into))
       (of.record_step env (itself into)) (of.stmt_step env (itself into)) (of.arm_step env (itself into))
       (of.call_step env (itself into)) (of_pats.pat_step env (itself into)) (of_pats.pat_field_step env (itself into))
       (of_types.assoc_type_arg_step env (itself into)) (of_types.param_step env (itself into))
@@ -123,7 +123,7 @@ module _ (env : Answers) (into : Option Entering) where
       (of.else_branch env (itself into)) (of.kind_step env (itself into)) (of.stmt_kind env (itself into))
       (of_pats.pat_kind_step env (itself into)) (of_types.generic_arg_step env (itself into))
       (of_types.type_kind_step env (itself into)) (of.block_step env (itself into)) (of.expr_step env (itself into))
-      (of_types.path_step env (itself into)) (of_types.segment_step env (itself into)) (of.field_step env (itself into))
+      (of_types.path_reading env (itself into)) (of_types.segment_step env (itself into)) (of.field_step env (itself into))
       (of.record_step env (itself into)) (of.stmt_step env (itself into)) (of.arm_step env (itself into))
       (of.call_step env (itself into)) (of_pats.pat_step env (itself into)) (of_pats.pat_field_step env (itself into))
       (of_types.assoc_type_arg_step env (itself into)) (of_types.param_step env (itself into))
@@ -144,7 +144,7 @@ module _ (env : Answers) (into : Option Entering) where
       (of.else_branch env (itself into)) (of.kind_step env (itself into)) (of.stmt_kind env (itself into))
       (of_pats.pat_kind_step env (itself into)) (of_types.generic_arg_step env (itself into))
       (of_types.type_kind_step env (itself into)) (of.block_step env (itself into)) (of.expr_step env (itself into))
-      (of_types.path_step env (itself into)) (of_types.segment_step env (itself into)) (of.field_step env (itself into))
+      (of_types.path_reading env (itself into)) (of_types.segment_step env (itself into)) (of.field_step env (itself into))
       (of.record_step env (itself into)) (of.stmt_step env (itself into)) (of.arm_step env (itself into))
       (of.call_step env (itself into)) (of_pats.pat_step env (itself into)) (of_pats.pat_field_step env (itself into))
       (of_types.assoc_type_arg_step env (itself into)) (of_types.param_step env (itself into))
@@ -165,7 +165,7 @@ module _ (env : Answers) (into : Option Entering) where
       (of.else_branch env (itself into)) (of.kind_step env (itself into)) (of.stmt_kind env (itself into))
       (of_pats.pat_kind_step env (itself into)) (of_types.generic_arg_step env (itself into))
       (of_types.type_kind_step env (itself into)) (of.block_step env (itself into)) (of.expr_step env (itself into))
-      (of_types.path_step env (itself into)) (of_types.segment_step env (itself into)) (of.field_step env (itself into))
+      (of_types.path_reading env (itself into)) (of_types.segment_step env (itself into)) (of.field_step env (itself into))
       (of.record_step env (itself into)) (of.stmt_step env (itself into)) (of.arm_step env (itself into))
       (of.call_step env (itself into)) (of_pats.pat_step env (itself into)) (of_pats.pat_field_step env (itself into))
       (of_types.assoc_type_arg_step env (itself into)) (of_types.param_step env (itself into))
@@ -186,7 +186,7 @@ module _ (env : Answers) (into : Option Entering) where
       (of.else_branch env (itself into)) (of.kind_step env (itself into)) (of.stmt_kind env (itself into))
       (of_pats.pat_kind_step env (itself into)) (of_types.generic_arg_step env (itself into))
       (of_types.type_kind_step env (itself into)) (of.block_step env (itself into)) (of.expr_step env (itself into))
-      (of_types.path_step env (itself into)) (of_types.segment_step env (itself into)) (of.field_step env (itself into))
+      (of_types.path_reading env (itself into)) (of_types.segment_step env (itself into)) (of.field_step env (itself into))
       (of.record_step env (itself into)) (of.stmt_step env (itself into)) (of.arm_step env (itself into))
       (of.call_step env (itself into)) (of_pats.pat_step env (itself into)) (of_pats.pat_field_step env (itself into))
       (of_types.assoc_type_arg_step env (itself into)) (of_types.param_step env (itself into))
@@ -207,7 +207,7 @@ module _ (env : Answers) (into : Option Entering) where
       (of.else_branch env (itself into)) (of.kind_step env (itself into)) (of.stmt_kind env (itself into))
       (of_pats.pat_kind_step env (itself into)) (of_types.generic_arg_step env (itself into))
       (of_types.type_kind_step env (itself into)) (of.block_step env (itself into)) (of.expr_step env (itself into))
-      (of_types.path_step env (itself into)) (of_types.segment_step env (itself into)) (of.field_step env (itself into))
+      (of_types.path_reading env (itself into)) (of_types.segment_step env (itself into)) (of.field_step env (itself into))
       (of.record_step env (itself into)) (of.stmt_step env (itself into)) (of.arm_step env (itself into))
       (of.call_step env (itself into)) (of_pats.pat_step env (itself into)) (of_pats.pat_field_step env (itself into))
       (of_types.assoc_type_arg_step env (itself into)) (of_types.param_step env (itself into))

@@ -1,4 +1,4 @@
--- The node of an answered expression is its own.
+-- The node of a resolved expression is its own.
 use Rattle.std.proofs.Common.{◌≡◌, ◌∙◌, refl, ap, true, false, Option, Some, None, Result, Ok, Err, option_map}
 use Rattle.hir_base.specs.declared.op.BinaryOp.TheVariants as op
 use Rattle.hir_syntax.specs.declared.ast.BlockModifier.{BlockModifier}
@@ -9,23 +9,23 @@ use Rattle.hir_syntax.specs.declared.ast.Expr.{Expr as AstExpr}
 use Rattle.hir_syntax.specs.declared.ast.ElseBranch.TheOpen.{ExprKind-F}
 use Rattle.hir_store.specs.Pointers.{Pointer}
 use Rattle.hir_store.specs.declared.ids.CfgId.{CfgId}
-use Rattle.hir_env.specs.Spot.{Spot, site_of}
+use Rattle.hir_env.specs.ResolveCtx.{ResolveCtx, site_of}
 use Rattle.hir_env.specs.Layers.{ExprKindLayer}
 use Rattle.hir_env.specs.Answering.{asked, expr_at, expr_or_none, for_items, for_of, label_of, label_written, asked_or_none}
 use Rattle.hir_env.specs.Answering.{question_items, question_of}
-use Rattle.hir_env.specs.Answered.{Expr, ForItems, IsWrittenLabel, Label, OptionExpr, OptionPat, QuestionItems}
+use Rattle.hir_env.specs.ResolvedTree.{Expr, ForItems, IsWrittenLabel, Label, OptionExpr, OptionPat, QuestionItems}
 use Rattle.hir_env.specs.Paths.{pat_or_none}
 use Rattle.hir_env.specs.Answers.{Answers}
 use Rattle.hir_env.specs.Calls.{around, around_if, asked_call, call_pointer, called, entered_expr, expr_in, gone_in}
-use Rattle.hir_env.specs.Answered as tree
-use Rattle.hir_env.specs.Answered.{Called, Gone}
+use Rattle.hir_env.specs.ResolvedTree as tree
+use Rattle.hir_env.specs.ResolvedTree.{Called, Gone}
 use Rattle.hir_env.specs.declared.expand.FragmentKind.TheVariants as kind
 use Rattle.hir_env.specs.Layers.{Entering}
-use Rattle.hir_env.specs.declared.place.Place.{Place}
+use Rattle.hir_env.specs.declared.ctx.LowerCtx.{LowerCtx}
 use Rattle.hir_syntax.specs.declared.macros.MacroCall.{MacroCall as AstMacroCall}
 use Rattle.hir_env.specs.Whole.{into}
 use Rattle.hir_env.specs.Targets.{pointer_of}
-use Rattle.hir_env.specs.Whole.{read_expr, own_level, written, reader, answered, kept_expr, kind_pointer, own_pointer, pointer_at}
+use Rattle.hir_env.specs.Whole.{read_expr, own_level, written, reader, resolved_expr, kept_expr, kind_pointer, own_pointer, pointer_at}
 use Rattle.hir_env.proofs.Levels.{expr_is_level, block_is_level}
 
 asked_pointer : (s : Pointer) (r : Result (Unit {0}) CfgId) (e : Expr) → pointer_of (asked s r e) ≡ pointer_of e
@@ -41,7 +41,7 @@ around_pointer s c tree.no_expr = refl
 around_pointer s c (tree.some_expr e) = around_if_pointer (gone_in e) s c (tree.some_expr e)
 
 -- that of a block as an expression is the block's, whatever its modifier
-own_block_pointer : (at : Spot) (m : Option BlockModifier) (b : AstBlockExpr)
+own_block_pointer : (at : ResolveCtx) (m : Option BlockModifier) (b : AstBlockExpr)
     → pointer_of (own_level at m b) ≡ pointer_at at (out-BlockExpr b).id (out-BlockExpr b).range
 own_block_pointer at None b = refl
 own_block_pointer at (Some modifier.Unsafe) b = refl
@@ -60,12 +60,12 @@ for_pointer : (items : Option ForItems) (s : Pointer) (label : Option Label) (w 
 for_pointer None s label w p h b = refl
 for_pointer (Some items) s label w p h b = refl
 
-macro_pointer : (env : Answers) (into : Option Entering) (c : AstMacroCall) (p : Place) (s : Pointer)
+macro_pointer : (env : Answers) (into : Option Entering) (c : AstMacroCall) (p : LowerCtx) (s : Pointer)
     → pointer_of (entered_expr env into c p s) ≡ s
 macro_pointer env None c p s = refl
 macro_pointer env (Some i) c p s = let x = asked_call env kind.Expr c p in around_pointer s (called (call_pointer p c) x) (expr_in i p x)
 
-kept_pointer : (at : Spot) (k : ExprKindLayer written) (s : Pointer)
+kept_pointer : (at : ResolveCtx) (k : ExprKindLayer written) (s : Pointer)
     → pointer_of (expr_at at.answers (reader at.answers (into at)) k at.place s) ≡ kind_pointer at.place k s
 kept_pointer at (ExprKind-F.BlockExpr b) s = ap pointer_of (block_is_level at b) ∙ own_block_pointer at (out-BlockExpr b).mod_ b
 kept_pointer at (ExprKind-F.IfExpr c t e) s = refl
@@ -121,7 +121,7 @@ kept_pointer at ExprKind-F.IncludeBytesExpr s = refl
 kept_pointer at ExprKind-F.AsmExpr s = refl
 kept_pointer at ExprKind-F.FormatArgsExpr s = refl
 
-pub pointer_is_own : (at : Spot) (e : AstExpr) → pointer_of (answered at e) ≡ own_pointer at e
+pub pointer_is_own : (at : ResolveCtx) (e : AstExpr) → pointer_of (resolved_expr at e) ≡ own_pointer at e
 pointer_is_own at e = let s = pointer_at at e.id e.range in
     ap pointer_of (expr_is_level at e)
     ∙ (asked_pointer s (at.answers.cfg (site_of s)) (kept_expr at e) ∙ kept_pointer at (out-ExprKind e.kind) s)

@@ -26,12 +26,12 @@ use Rattle.hir_store.specs.declared.ids.ModuleId.{ModuleId}
 use Rattle.hir_store.specs.declared.name.Name.{Name}
 use Rattle.hir_store.specs.Names.{IsWritten}
 use Rattle.hir_store.specs.declared.name.Name.TheVariants as name
-use Rattle.hir_env.specs.declared.place.Place.{Place}
-use Rattle.hir_env.specs.declared.place.LoweringMode.{LoweringMode}
-use Rattle.hir_env.specs.declared.place.LoweringMode.TheVariants as mode
+use Rattle.hir_env.specs.declared.ctx.LowerCtx.{LowerCtx}
+use Rattle.hir_env.specs.declared.ctx.LoweringMode.{LoweringMode}
+use Rattle.hir_env.specs.declared.ctx.LoweringMode.TheVariants as mode
 use Rattle.hir_env.specs.declared.lang.LangItems.{LangItems}
 use Rattle.hir_env.specs.Answers.{Answers}
-pub use Rattle.hir_env.specs.Spot.{in_file, ptr, site_of}
+pub use Rattle.hir_env.specs.ResolveCtx.{in_file, ptr, site_of}
 pub use Rattle.hir_env.specs.Paths.{mutability, expr_or_none, constant_step, generic_arg_list_step}
 use Rattle.hir_env.specs.Paths.{inside_closure, inside_const_block, inside_coroutine, path_or_none, type_or_none, pat_or_none}
 use Rattle.hir_env.specs.Paths.{arg_list_or_none}
@@ -44,10 +44,10 @@ use Rattle.hir_env.specs.Calls.{lacking_call, append, entered_expr, entered_spli
 use Rattle.hir_store.specs.declared.ids.MacroDefId.{MacroDefId}
 use Rattle.hir_env.specs.Layers.{StmtKindLayer, BlockExprLayer, ExprLayer, RecordExprFieldLayer}
 use Rattle.hir_env.specs.Layers.{RecordExprFieldListLayer, StmtLayer, MatchArmLayer}
-use Rattle.hir_env.specs.Answered as tree
-use Rattle.hir_env.specs.Answered.{Label, Jump, Path, Expr, OptionExpr, Exprs, RecordHead, Fields, Field, Spread, Block, OptionBlock}
-use Rattle.hir_env.specs.Answered.{Stmts, Stmt, Constant, Arms, Arm, Guard, IsWrittenLabel, OptionPat}
-use Rattle.hir_env.specs.Answered.{ForItems, OptionType, Params, QuestionItems}
+use Rattle.hir_env.specs.ResolvedTree as tree
+use Rattle.hir_env.specs.ResolvedTree.{Label, Jump, Path, Expr, OptionExpr, Exprs, RecordHead, Fields, Field, Spread, Block, OptionBlock}
+use Rattle.hir_env.specs.ResolvedTree.{Stmts, Stmt, Constant, Arms, Arm, Guard, IsWrittenLabel, OptionPat}
+use Rattle.hir_env.specs.ResolvedTree.{ForItems, OptionType, Params, QuestionItems}
 
 -- names and labels
 
@@ -55,7 +55,7 @@ abbrev pub label_name : Option AstLifetime → Name
 label_name None = name.Missing
 label_name (Some l) = name.Text l.t
 
-abbrev pub label_of : Answers → Place → AstLabel → Label
+abbrev pub label_of : Answers → LowerCtx → AstLabel → Label
 label_of env p l =
     let s = in_file p (ptr l.id l.range) in
     record { pointer = s; name = label_name l.lifetime; hygiene = env.hygiene (site_of s) }
@@ -64,7 +64,7 @@ abbrev pub label_name_written : (l : Option AstLifetime) → IsWritten (label_na
 label_name_written None = tt
 label_name_written (Some l) = tt
 
-abbrev pub label_written : (env : Answers) (p : Place) (l : Option AstLabel) → IsWrittenLabel (option_map (label_of env p) l)
+abbrev pub label_written : (env : Answers) (p : LowerCtx) (l : Option AstLabel) → IsWrittenLabel (option_map (label_of env p) l)
 label_written env p None = tt
 label_written env p (Some l) = label_name_written l.lifetime
 
@@ -72,7 +72,7 @@ label_written env p (Some l) = label_name_written l.lifetime
 abbrev pub jump : Answers → Pointer → Name → HygieneId → Jump
 jump env s n h = record { pointer = s; name = n; hygiene = h; contexts = env.contexts }
 
-abbrev pub jump_of : Answers → Place → AstLifetime → Jump
+abbrev pub jump_of : Answers → LowerCtx → AstLifetime → Jump
 jump_of env p l = let s = in_file p (ptr l.id l.range) in jump env s (name.Text l.t) (env.hygiene (site_of s))
 
 -- the name that a form has, which is missing where it is absent
@@ -89,7 +89,7 @@ names_of ns = map (λ n. name.Text n.t) ns
 
 -- operators
 
--- `&&`, `||` and `=` have a meaning of their own; what is assigned to depends on which paths are no places
+-- `&&`, `||` and `=` have a meaning of their own; the assignee expression depends on which paths are no places
 abbrev pub bin_expr : (Path → Bool) → Pointer → Option BinaryOp → OptionExpr → OptionExpr → Expr
 bin_expr is_found s (Some (op.LogicOp o)) a b = tree.lazy_expr s o a b
 bin_expr is_found s (Some op.Assign) a b = tree.assign_expr s a (target_of is_found a) b
@@ -173,12 +173,27 @@ plain_head = labelled_head None tt
 abbrev pub unsafe_head : BlockHead
 unsafe_head = record { is_unsafe = true; label = None; written = tt }
 
+-- what is in a block, with the block's number
+pub record Held : Type 0 where
+  pub number : Option BlockId
+  pub stmts : Stmts
+  pub last : OptionExpr
+
+abbrev pub block_holding : Pointer → BlockHead → Held → Block
+block_holding s head held = tree.block s head.is_unsafe head.label head.written held.number held.stmts held.last
+
+abbrev pub try_holding : Pointer → Option LangItemId → OptionType → Held → Expr
+try_holding s item t held = tree.try_expr s item t held.number held.stmts held.last
+
+abbrev pub coroutine_holding : Pointer → CoroutineKind → Bool → Held → Expr
+coroutine_holding s kind moves held = tree.coroutine_expr s kind moves held.number held.stmts held.last
+
 -- a `const` block around this one
 abbrev pub const_of : Pointer → Block → Expr
 const_of s b = tree.const_expr s (tree.constant (tree.some_expr (tree.block_expr b)))
 
 -- the number and the module of a block, where numbers are asked for
-abbrev pub numbered : Answers → Place → NodeId → Option (BlockId × ModuleId)
+abbrev pub numbered : Answers → LowerCtx → NodeId → Option (BlockId × ModuleId)
 numbered env p id = by p.mode
   where
     by : LoweringMode → Option (BlockId × ModuleId)
@@ -189,34 +204,34 @@ abbrev pub module_or : Option (BlockId × ModuleId) → ModuleId → ModuleId
 module_or None m = m
 module_or (Some n) m = n.1
 
-abbrev pub inside : Option (BlockId × ModuleId) → Place → Place
+abbrev pub inside : Option (BlockId × ModuleId) → LowerCtx → LowerCtx
 inside number p = record p { module_id = module_or number p.module_id }
 
 -- parts that may be absent, and lists
 
-abbrev pub plain_or_none : {A : Type 0} → (A → BlockReading) → Option A → Place → OptionBlock
+abbrev pub plain_or_none : {A : Type 0} → (A → BlockReading) → Option A → LowerCtx → OptionBlock
 plain_or_none read None p = tree.no_block
 plain_or_none read (Some b) p = tree.some_block ((read b).plain p)
 
 -- a block that is read as an expression, with the condition that disables it
-abbrev pub asked_or_none : {A : Type 0} → (A → BlockReading) → Option A → Place → OptionExpr
+abbrev pub asked_or_none : {A : Type 0} → (A → BlockReading) → Option A → LowerCtx → OptionExpr
 asked_or_none read None p = tree.no_expr
 asked_or_none read (Some b) p = tree.some_expr ((read b).asked p)
 
-abbrev pub exprs_of : {A : Type 0} → (A → Place → Expr) → List A → Place → Exprs
+abbrev pub exprs_of : {A : Type 0} → (A → LowerCtx → Expr) → List A → LowerCtx → Exprs
 exprs_of read [] p = tree.no_exprs
 exprs_of read (e ∷ es) p = tree.more_exprs (read e p) (exprs_of read es p)
 
-abbrev pub exprs_or_none : {A : Type 0} → (A → Place → Expr) → Option (List A) → Place → Exprs
+abbrev pub exprs_or_none : {A : Type 0} → (A → LowerCtx → Expr) → Option (List A) → LowerCtx → Exprs
 exprs_or_none read None p = tree.no_exprs
 exprs_or_none read (Some es) p = exprs_of read es p
 
-abbrev pub fields_of : {A : Type 0} → (A → Place → Field) → List A → Place → Fields
+abbrev pub fields_of : {A : Type 0} → (A → LowerCtx → Field) → List A → LowerCtx → Fields
 fields_of read [] p = tree.no_fields
 fields_of read (x ∷ xs) p = tree.more_fields (read x p) (fields_of read xs p)
 
 -- an expression behind two dots, or two dots alone
-abbrev pub spread_or_none : {A : Type 0} → (A → Place → Expr) → Option A → Bool → Place → Spread
+abbrev pub spread_or_none : {A : Type 0} → (A → LowerCtx → Expr) → Option A → Bool → LowerCtx → Spread
 spread_or_none read (Some e) dots p = tree.spread_of (read e p)
 spread_or_none read None true p = tree.field_defaults
 spread_or_none read None false p = tree.no_spread
@@ -227,24 +242,24 @@ no_list = record { has_list = false; has_dots = false }
 abbrev pub list_with : Bool → RecordHead
 list_with dots = record { has_list = true; has_dots = dots }
 
-abbrev pub record_or_empty : {A : Type 0} → (A → Place → RecordReading) → Option A → Place → RecordReading
+abbrev pub record_or_empty : {A : Type 0} → (A → LowerCtx → RecordReading) → Option A → LowerCtx → RecordReading
 record_or_empty read None p = record { head = no_list; fields = tree.no_fields; spread = tree.no_spread }
 record_or_empty read (Some x) p = read x p
 
-abbrev pub arms_of : {A : Type 0} → (A → Place → Arm) → List A → Place → Arms
+abbrev pub arms_of : {A : Type 0} → (A → LowerCtx → Arm) → List A → LowerCtx → Arms
 arms_of read [] p = tree.no_arms
 arms_of read (x ∷ xs) p = tree.more_arms (read x p) (arms_of read xs p)
 
-abbrev pub arms_or_none : {A : Type 0} → (A → Place → Arm) → Option (List A) → Place → Arms
+abbrev pub arms_or_none : {A : Type 0} → (A → LowerCtx → Arm) → Option (List A) → LowerCtx → Arms
 arms_or_none read None p = tree.no_arms
 arms_or_none read (Some xs) p = arms_of read xs p
 
-abbrev pub guard_or_none : {A : Type 0} → (A → Place → OptionExpr) → Option A → Place → Guard
+abbrev pub guard_or_none : {A : Type 0} → (A → LowerCtx → OptionExpr) → Option A → LowerCtx → Guard
 guard_or_none read None p = tree.no_guard
 guard_or_none read (Some x) p = tree.guard (read x p)
 
 -- the block behind the `else` of a `let`
-abbrev pub let_else_or_none : {A : Type 0} → (A → Place → OptionBlock) → Option A → Place → OptionBlock
+abbrev pub let_else_or_none : {A : Type 0} → (A → LowerCtx → OptionBlock) → Option A → LowerCtx → OptionBlock
 let_else_or_none read None p = tree.no_block
 let_else_or_none read (Some x) p = read x p
 
@@ -252,8 +267,8 @@ let_else_or_none read (Some x) p = read x p
 abbrev pub Contents : Type 0
 Contents = Stmts × OptionExpr
 
-abbrev pub contents_of : {A B : Type 0} → (A → Place → Defined → StmtReading) → (B → Place → Defined → Spliced) → List A → Option B
-    → Place → Contents
+abbrev pub contents_of : {A B : Type 0} → (A → LowerCtx → Defined → StmtReading) → (B → LowerCtx → Defined → Spliced) → List A → Option B
+    → LowerCtx → Contents
 contents_of stmt value ss e p = let c = splice_of stmt value ss e p [] in (c.stmts, c.last)
 
 -- the expression by itself
@@ -273,12 +288,12 @@ asked_splice s (Ok _) r d = r
 asked_splice s (Err by) r d =
     record { stmts = tree.more_stmts (tree.disabled_stmt s by tree.item_stmt) tree.no_stmts; last = tree.no_expr; defined = d }
 
-abbrev pub def_named : Answers → Place → Option AstName → Option MacroDefId
+abbrev pub def_named : Answers → LowerCtx → Option AstName → Option MacroDefId
 def_named env p None = None
 def_named env p (Some n) = env.macro_def p.module_id (name.Text n.t)
 
 -- one without a name isn't counted
-abbrev pub rules_named : Answers → Place → Option AstName → Defined → StmtReading
+abbrev pub rules_named : Answers → LowerCtx → Option AstName → Defined → StmtReading
 rules_named env p None d = alone (tree.macro_stmt 0 None) d
 rules_named env p (Some n) d =
     let k = times (name.Text n.t) d in
@@ -315,11 +330,11 @@ field_of s None e = tree.nameless_field s e
 field_of s (Some n) e = tree.named_field s (name.Text n.t) e
 
 module _ (env : Answers) {S : Sorts} (part : Reader S) where
-  abbrev pub else_branch : ElseBranchLayer S → Place → Expr
+  abbrev pub else_branch : ElseBranchLayer S → LowerCtx → Expr
   else_branch (ElseBranch-F.ElseBlock b) p = tree.block_expr ((part.block_expr b).plain p)
   else_branch (ElseBranch-F.ElseIf e) p = part.expr e p
 
-  abbrev pub expr_at : ExprKindLayer S → Place → Pointer → Expr
+  abbrev pub expr_at : ExprKindLayer S → LowerCtx → Pointer → Expr
   expr_at (ExprKind-F.IfExpr c t e) p s =
       tree.if_expr s (expr_or_none part.expr c p) (plain_or_none part.block_expr t p) (expr_or_none part.else_branch e p)
   expr_at (ExprKind-F.BlockExpr b) p s = (part.block_expr b).own p
@@ -375,10 +390,10 @@ module _ (env : Answers) {S : Sorts} (part : Reader S) where
   expr_at ExprKind-F.AsmExpr p s = tree.leaf_expr s tree.left_out
   expr_at ExprKind-F.FormatArgsExpr p s = tree.leaf_expr s tree.left_out
 
-  abbrev pub expr_kind : ExprKindLayer S → AstPtr → Place → Expr
+  abbrev pub expr_kind : ExprKindLayer S → AstPtr → LowerCtx → Expr
   expr_kind k n p = let s = in_file p n in asked s (env.cfg (site_of s)) (expr_at k p s)
 
-  abbrev pub value_kind : ExprKindLayer S → AstPtr → Place → Defined → Spliced
+  abbrev pub value_kind : ExprKindLayer S → AstPtr → LowerCtx → Defined → Spliced
   value_kind (ExprKind-F.MacroExpr None) n p d = let s = in_file p n in asked_splice s (env.cfg (site_of s)) (nothing d) d
   value_kind (ExprKind-F.MacroExpr (Some c)) n p d = let s = in_file p n in
       asked_splice s (env.cfg (site_of s)) (entered_splice env part.into (part.macro_call c) p s d) d
@@ -393,51 +408,49 @@ module _ (env : Answers) {S : Sorts} (part : Reader S) where
   abbrev pub call_step : MacroCallLayer S → Unit {0}
   call_step c = tt
 
-  abbrev pub field_at : RecordExprFieldLayer S → Place → Pointer → Field
+  abbrev pub field_at : RecordExprFieldLayer S → LowerCtx → Pointer → Field
   field_at x p s = asked_field s (env.cfg (site_of s)) (field_of s x.name (expr_or_none part.expr x.expr p))
 
-  abbrev pub field_step : RecordExprFieldLayer S → Place → Field
+  abbrev pub field_step : RecordExprFieldLayer S → LowerCtx → Field
   field_step x p = field_at x p (in_file p (ptr x.id x.range))
 
-  abbrev pub record_step : RecordExprFieldListLayer S → Place → RecordReading
+  abbrev pub record_step : RecordExprFieldListLayer S → LowerCtx → RecordReading
   record_step x p = record {
     head = list_with x.dotdot;
     fields = fields_of part.field x.fields p;
     spread = spread_or_none part.expr x.spread x.dotdot p;
   }
 
-  abbrev pub guard_step : Option S.Expr → Place → OptionExpr
+  abbrev pub guard_step : Option S.Expr → LowerCtx → OptionExpr
   guard_step x p = expr_or_none part.expr x p
 
-  abbrev pub arm_at : MatchArmLayer S → Place → Pointer → Arm
+  abbrev pub arm_at : MatchArmLayer S → LowerCtx → Pointer → Arm
   arm_at x p s = asked_arm s (env.cfg (site_of s))
       (tree.arm (pat_or_none part.pat x.pat p) (expr_or_none part.expr x.expr p) (guard_or_none guard_step x.guard p))
 
-  abbrev pub arm_step : MatchArmLayer S → Place → Arm
+  abbrev pub arm_step : MatchArmLayer S → LowerCtx → Arm
   arm_step x p = arm_at x p (in_file p (ptr x.id x.range))
 
-  abbrev pub block_at : BlockExprLayer S → BlockHead → Place → Block
-  block_at b head p =
+  -- the only reading of what is in a block, of whatever sort that is, at the place where the block is read
+  abbrev pub held_at : BlockExprLayer S → LowerCtx → Held
+  held_at b p =
       let number = numbered env p b.id in
       let c = contents_of part.stmt part.value b.stmts b.tail (inside number p) in
-      tree.block (in_file p (ptr b.id b.range)) head.is_unsafe head.label head.written (option_map (λ n. n.0) number) c.0 c.1
+      record { number = option_map (λ n. n.0) number; stmts = c.0; last = c.1 }
 
-  abbrev pub try_at : BlockExprLayer S → Place → Expr
+  abbrev pub block_at : BlockExprLayer S → BlockHead → LowerCtx → Block
+  block_at b head p = block_holding (in_file p (ptr b.id b.range)) head (held_at b p)
+
+  abbrev pub try_at : BlockExprLayer S → LowerCtx → Expr
   try_at b p =
-      let number = numbered env p b.id in
-      let c = contents_of part.stmt part.value b.stmts b.tail (inside number p) in
-      tree.try_expr (in_file p (ptr b.id b.range)) env.lang_items.try_trait_from_output (type_or_none part.type_ b.ty p)
-      (option_map (λ n. n.0) number) c.0 c.1
+      try_holding (in_file p (ptr b.id b.range)) env.lang_items.try_trait_from_output (type_or_none part.type_ b.ty p) (held_at b p)
 
   -- a coroutine block, at the place inside of it
-  abbrev pub coroutine_at : CoroutineKind → BlockExprLayer S → Place → Expr
-  coroutine_at kind b p =
-      let number = numbered env p b.id in
-      let c = contents_of part.stmt part.value b.stmts b.tail (inside number p) in
-      tree.coroutine_expr (in_file p (ptr b.id b.range)) kind b.move_ (option_map (λ n. n.0) number) c.0 c.1
+  abbrev pub coroutine_at : CoroutineKind → BlockExprLayer S → LowerCtx → Expr
+  coroutine_at kind b p = coroutine_holding (in_file p (ptr b.id b.range)) kind b.move_ (held_at b p)
 
   -- A label counts only where no modifier stands, and a type only behind `try`. What is in a `const` block is a plain block.
-  abbrev pub own_block : Option BlockModifier → BlockExprLayer S → Place → Expr
+  abbrev pub own_block : Option BlockModifier → BlockExprLayer S → LowerCtx → Expr
   own_block None b p = tree.block_expr (block_at b (labelled_head (option_map (label_of env p) b.label) (label_written env p b.label)) p)
   own_block (Some modifier.Unsafe) b p = tree.block_expr (block_at b unsafe_head p)
   own_block (Some modifier.Try) b p = try_at b p
@@ -453,11 +466,11 @@ module _ (env : Answers) {S : Sorts} (part : Reader S) where
     asked = λ p. let s = in_file p (ptr b.id b.range) in asked s (env.cfg (site_of s)) (own_block b.mod_ b p);
   }
 
-  abbrev pub let_else_step : Option S.BlockExpr → Place → OptionBlock
+  abbrev pub let_else_step : Option S.BlockExpr → LowerCtx → OptionBlock
   let_else_step x p = plain_or_none part.block_expr x p
 
   -- what it stands for
-  abbrev pub stmt_at : StmtKindLayer S → Place → Pointer → Defined → StmtReading
+  abbrev pub stmt_at : StmtKindLayer S → LowerCtx → Pointer → Defined → StmtReading
   stmt_at (StmtKind-F.LetStmt x t e b) p s d = alone (asked_stmt s (env.cfg (site_of s))
       (tree.let_stmt (pat_or_none part.pat x p) (type_or_none part.type_ t p) (expr_or_none part.expr e p)
       (let_else_or_none let_else_step b p))) d
@@ -466,8 +479,8 @@ module _ (env : Answers) {S : Sorts} (part : Reader S) where
   stmt_at (StmtKind-F.MacroDef x) p s d = alone (asked_stmt s (env.cfg (site_of s)) (tree.macro_stmt 0 (def_named env p x))) d
   stmt_at StmtKind-F.Item p s d = alone tree.item_stmt d
 
-  abbrev pub stmt_kind : StmtKindLayer S → AstPtr → Place → Defined → StmtReading
+  abbrev pub stmt_kind : StmtKindLayer S → AstPtr → LowerCtx → Defined → StmtReading
   stmt_kind k n p d = stmt_at k p (in_file p n) d
 
-  abbrev pub stmt_step : StmtLayer S → Place → Defined → StmtReading
+  abbrev pub stmt_step : StmtLayer S → LowerCtx → Defined → StmtReading
   stmt_step s = part.stmt_kind s.kind (ptr s.id s.range)

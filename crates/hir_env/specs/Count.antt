@@ -1,11 +1,11 @@
--- The size of an answered tree: what lowering it steps down by. Of what is assigned to the expression counts, and of the pattern of
+-- The size of a resolved tree: what lowering it steps down by. Of the assignee expression the expression counts, and of the pattern of
 -- a type the pattern.
 use Rattle.std.specs.Prelude.{ℕ, suc, ◌+◌}
-use Rattle.hir_env.specs.Answered as tree
-use Rattle.hir_env.specs.Answered.{Type_, OptionType, Parts, Path, OptionPath, Segments, Segment, SegmentArgs, OptionParens}
-use Rattle.hir_env.specs.Answered.{OptionRet, OptionArgs, Args, Arg, Bounds, Bound, Constant}
-use Rattle.hir_env.specs.Answered.{Expr, OptionExpr, Exprs, Fields, Field, Spread, Block, OptionBlock, Stmts, Stmt, Arms, Arm}
-use Rattle.hir_env.specs.Answered.{Guard, Param, Params, Pat, OptionPat, Pats, PatFields, PatField, Side}
+use Rattle.hir_env.specs.ResolvedTree as tree
+use Rattle.hir_env.specs.ResolvedTree.{Type_, OptionType, Parts, Path, OptionPath, Segments, Segment, SegmentArgs, OptionParens}
+use Rattle.hir_env.specs.ResolvedTree.{OptionRet, OptionArgs, Args, Arg, Bounds, Bound, Constant}
+use Rattle.hir_env.specs.ResolvedTree.{Expr, OptionExpr, Exprs, Fields, Field, Spread, Block, OptionBlock, Stmts, Stmt, Arms, Arm}
+use Rattle.hir_env.specs.ResolvedTree.{Guard, Param, Params, Pat, OptionPat, Pats, PatFields, PatField, Side}
 
 abbrev mutual
   pub count_type : Type_ → ℕ
@@ -220,7 +220,7 @@ abbrev mutual
   pub count_pats : Pats → ℕ
   count_pats tree.no_pats = 0
   count_pats (tree.more_pats p ps) = count_pat p + count_pats ps
-  count_pats (tree.noted_pats called ps) = suc (count_pats ps)
+  count_pats (tree.tracked_pats called ps) = suc (count_pats ps)
 
   pub count_pat_fields : PatFields → ℕ
   count_pat_fields tree.no_pat_fields = 0

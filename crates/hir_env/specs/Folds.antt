@@ -24,25 +24,25 @@ use Rattle.hir_syntax.specs.declared.types.Type_.{Type_ as AstType_}
 use Rattle.hir_syntax.specs.declared.macros.MacroCall.{MacroCall as AstMacroCall}
 use Rattle.hir_syntax.specs.declared.ast.ElseBranch.TheFolds as folds
 use Rattle.hir_base.specs.declared.node.AstPtr.{AstPtr}
-use Rattle.hir_env.specs.declared.place.Place.{Place}
+use Rattle.hir_env.specs.declared.ctx.LowerCtx.{LowerCtx}
 use Rattle.hir_env.specs.Wrapped.{AstConstArg, AstGuard, AstLetElse, AstRetType, AstTypeArg, AstParenArgs, AstGenericArgList}
 use Rattle.hir_env.specs.Answers.{Answers}
-use Rattle.hir_env.specs.Layers.{BlockReading, StmtReading, RecordReading, ParamReading, PathTypeReading, Reader, readings}
+use Rattle.hir_env.specs.Layers.{BlockReading, StmtReading, RecordReading, ParamReading, PathReading, PathTypeReading, Reader, readings}
 use Rattle.hir_env.specs.Layers.{itself, Defined, Entering, ExprReading, KindReading, Spliced}
 pub use Rattle.hir_env.specs.Layers.{written}
 use Rattle.hir_env.specs.Answering.{constant_step, guard_step, let_else_step}
 use Rattle.hir_env.specs.Answering.{else_branch, kind_step, call_step, stmt_kind, block_step, expr_step, field_step}
 use Rattle.hir_env.specs.Answering.{record_step, stmt_step, arm_step}
 use Rattle.hir_env.specs.Paths.{ret_type_step, type_arg_step, paren_args_step, generic_arg_list_step}
-use Rattle.hir_env.specs.Paths.{generic_arg_step, type_kind_step, path_step, segment_step, assoc_type_arg_step}
+use Rattle.hir_env.specs.Paths.{generic_arg_step, type_kind_step, path_reading, segment_step, assoc_type_arg_step}
 use Rattle.hir_env.specs.Paths.{param_step, path_type_step}
 use Rattle.hir_env.specs.Paths.{type_bound_step, type_step}
 use Rattle.hir_env.specs.Pats.{pat_kind_step, pat_step, pat_field_step}
-use Rattle.hir_env.specs.Answered.{Type_, OptionType, Parts, Path, Segment, Args, Arg, Bound, Constant, Expr, OptionExpr, Field}
-use Rattle.hir_env.specs.Answered.{OptionBlock, Arm, Pat, PatField}
+use Rattle.hir_env.specs.ResolvedTree.{Type_, OptionType, Parts, Path, Segment, Args, Arg, Bound, Constant, Expr, OptionExpr, Field}
+use Rattle.hir_env.specs.ResolvedTree.{OptionBlock, Arm, Pat, PatField}
 
 module _ (env : Answers) (into : Option Entering) where
-  unfoldable pub fold_else_branch : AstElseBranch → Place → Expr
+  unfoldable pub fold_else_branch : AstElseBranch → LowerCtx → Expr
   fold_else_branch = folds.para-ElseBranch
       readings.ElseBranch readings.ExprKind readings.StmtKind readings.PatKind readings.GenericArg readings.TypeKind
       readings.BlockExpr readings.Expr readings.Path readings.PathSegment readings.RecordExprField readings.RecordExprFieldList
@@ -50,7 +50,7 @@ module _ (env : Answers) (into : Option Entering) where
       readings.PathType readings.TypeBound readings.Type_
       (else_branch env (itself into)) (kind_step env (itself into)) (stmt_kind env (itself into)) (pat_kind_step env (itself into))
       (generic_arg_step env (itself into)) (type_kind_step env (itself into)) (block_step env (itself into))
-      (expr_step env (itself into)) (path_step env (itself into)) (segment_step env (itself into)) (field_step env (itself into))
+      (expr_step env (itself into)) (path_reading env (itself into)) (segment_step env (itself into)) (field_step env (itself into))
       (record_step env (itself into)) (stmt_step env (itself into)) (arm_step env (itself into)) (call_step env (itself into))
       (pat_step env (itself into)) (pat_field_step env (itself into)) (assoc_type_arg_step env (itself into))
       (param_step env (itself into)) (path_type_step env (itself into)) (type_bound_step env (itself into))
@@ -64,13 +64,13 @@ module _ (env : Answers) (into : Option Entering) where
       readings.PathType readings.TypeBound readings.Type_
       (else_branch env (itself into)) (kind_step env (itself into)) (stmt_kind env (itself into)) (pat_kind_step env (itself into))
       (generic_arg_step env (itself into)) (type_kind_step env (itself into)) (block_step env (itself into))
-      (expr_step env (itself into)) (path_step env (itself into)) (segment_step env (itself into)) (field_step env (itself into))
+      (expr_step env (itself into)) (path_reading env (itself into)) (segment_step env (itself into)) (field_step env (itself into))
       (record_step env (itself into)) (stmt_step env (itself into)) (arm_step env (itself into)) (call_step env (itself into))
       (pat_step env (itself into)) (pat_field_step env (itself into)) (assoc_type_arg_step env (itself into))
       (param_step env (itself into)) (path_type_step env (itself into)) (type_bound_step env (itself into))
       (type_step env (itself into))
 
-  unfoldable pub fold_stmt_kind : AstStmtKind → AstPtr → Place → Defined → StmtReading
+  unfoldable pub fold_stmt_kind : AstStmtKind → AstPtr → LowerCtx → Defined → StmtReading
   fold_stmt_kind = folds.para-StmtKind
       readings.ElseBranch readings.ExprKind readings.StmtKind readings.PatKind readings.GenericArg readings.TypeKind
       readings.BlockExpr readings.Expr readings.Path readings.PathSegment readings.RecordExprField readings.RecordExprFieldList
@@ -78,13 +78,13 @@ module _ (env : Answers) (into : Option Entering) where
       readings.PathType readings.TypeBound readings.Type_
       (else_branch env (itself into)) (kind_step env (itself into)) (stmt_kind env (itself into)) (pat_kind_step env (itself into))
       (generic_arg_step env (itself into)) (type_kind_step env (itself into)) (block_step env (itself into))
-      (expr_step env (itself into)) (path_step env (itself into)) (segment_step env (itself into)) (field_step env (itself into))
+      (expr_step env (itself into)) (path_reading env (itself into)) (segment_step env (itself into)) (field_step env (itself into))
       (record_step env (itself into)) (stmt_step env (itself into)) (arm_step env (itself into)) (call_step env (itself into))
       (pat_step env (itself into)) (pat_field_step env (itself into)) (assoc_type_arg_step env (itself into))
       (param_step env (itself into)) (path_type_step env (itself into)) (type_bound_step env (itself into))
       (type_step env (itself into))
 
-  unfoldable pub fold_pat_kind : AstPatKind → AstPtr → Place → Pat
+  unfoldable pub fold_pat_kind : AstPatKind → AstPtr → LowerCtx → Pat
   fold_pat_kind = folds.para-PatKind
       readings.ElseBranch readings.ExprKind readings.StmtKind readings.PatKind readings.GenericArg readings.TypeKind
       readings.BlockExpr readings.Expr readings.Path readings.PathSegment readings.RecordExprField readings.RecordExprFieldList
@@ -92,13 +92,13 @@ module _ (env : Answers) (into : Option Entering) where
       readings.PathType readings.TypeBound readings.Type_
       (else_branch env (itself into)) (kind_step env (itself into)) (stmt_kind env (itself into)) (pat_kind_step env (itself into))
       (generic_arg_step env (itself into)) (type_kind_step env (itself into)) (block_step env (itself into))
-      (expr_step env (itself into)) (path_step env (itself into)) (segment_step env (itself into)) (field_step env (itself into))
+      (expr_step env (itself into)) (path_reading env (itself into)) (segment_step env (itself into)) (field_step env (itself into))
       (record_step env (itself into)) (stmt_step env (itself into)) (arm_step env (itself into)) (call_step env (itself into))
       (pat_step env (itself into)) (pat_field_step env (itself into)) (assoc_type_arg_step env (itself into))
       (param_step env (itself into)) (path_type_step env (itself into)) (type_bound_step env (itself into))
       (type_step env (itself into))
 
-  unfoldable pub fold_generic_arg : AstGenericArg → Place → Arg
+  unfoldable pub fold_generic_arg : AstGenericArg → LowerCtx → Arg
   fold_generic_arg = folds.para-GenericArg
       readings.ElseBranch readings.ExprKind readings.StmtKind readings.PatKind readings.GenericArg readings.TypeKind
       readings.BlockExpr readings.Expr readings.Path readings.PathSegment readings.RecordExprField readings.RecordExprFieldList
@@ -106,13 +106,13 @@ module _ (env : Answers) (into : Option Entering) where
       readings.PathType readings.TypeBound readings.Type_
       (else_branch env (itself into)) (kind_step env (itself into)) (stmt_kind env (itself into)) (pat_kind_step env (itself into))
       (generic_arg_step env (itself into)) (type_kind_step env (itself into)) (block_step env (itself into))
-      (expr_step env (itself into)) (path_step env (itself into)) (segment_step env (itself into)) (field_step env (itself into))
+      (expr_step env (itself into)) (path_reading env (itself into)) (segment_step env (itself into)) (field_step env (itself into))
       (record_step env (itself into)) (stmt_step env (itself into)) (arm_step env (itself into)) (call_step env (itself into))
       (pat_step env (itself into)) (pat_field_step env (itself into)) (assoc_type_arg_step env (itself into))
       (param_step env (itself into)) (path_type_step env (itself into)) (type_bound_step env (itself into))
       (type_step env (itself into))
 
-  unfoldable pub fold_type_kind : AstTypeKind → AstPtr → Place → Type_
+  unfoldable pub fold_type_kind : AstTypeKind → AstPtr → LowerCtx → Type_
   fold_type_kind = folds.para-TypeKind
       readings.ElseBranch readings.ExprKind readings.StmtKind readings.PatKind readings.GenericArg readings.TypeKind
       readings.BlockExpr readings.Expr readings.Path readings.PathSegment readings.RecordExprField readings.RecordExprFieldList
@@ -120,7 +120,7 @@ module _ (env : Answers) (into : Option Entering) where
       readings.PathType readings.TypeBound readings.Type_
       (else_branch env (itself into)) (kind_step env (itself into)) (stmt_kind env (itself into)) (pat_kind_step env (itself into))
       (generic_arg_step env (itself into)) (type_kind_step env (itself into)) (block_step env (itself into))
-      (expr_step env (itself into)) (path_step env (itself into)) (segment_step env (itself into)) (field_step env (itself into))
+      (expr_step env (itself into)) (path_reading env (itself into)) (segment_step env (itself into)) (field_step env (itself into))
       (record_step env (itself into)) (stmt_step env (itself into)) (arm_step env (itself into)) (call_step env (itself into))
       (pat_step env (itself into)) (pat_field_step env (itself into)) (assoc_type_arg_step env (itself into))
       (param_step env (itself into)) (path_type_step env (itself into)) (type_bound_step env (itself into))
@@ -134,7 +134,7 @@ module _ (env : Answers) (into : Option Entering) where
       readings.PathType readings.TypeBound readings.Type_
       (else_branch env (itself into)) (kind_step env (itself into)) (stmt_kind env (itself into)) (pat_kind_step env (itself into))
       (generic_arg_step env (itself into)) (type_kind_step env (itself into)) (block_step env (itself into))
-      (expr_step env (itself into)) (path_step env (itself into)) (segment_step env (itself into)) (field_step env (itself into))
+      (expr_step env (itself into)) (path_reading env (itself into)) (segment_step env (itself into)) (field_step env (itself into))
       (record_step env (itself into)) (stmt_step env (itself into)) (arm_step env (itself into)) (call_step env (itself into))
       (pat_step env (itself into)) (pat_field_step env (itself into)) (assoc_type_arg_step env (itself into))
       (param_step env (itself into)) (path_type_step env (itself into)) (type_bound_step env (itself into))
@@ -148,13 +148,13 @@ module _ (env : Answers) (into : Option Entering) where
       readings.PathType readings.TypeBound readings.Type_
       (else_branch env (itself into)) (kind_step env (itself into)) (stmt_kind env (itself into)) (pat_kind_step env (itself into))
       (generic_arg_step env (itself into)) (type_kind_step env (itself into)) (block_step env (itself into))
-      (expr_step env (itself into)) (path_step env (itself into)) (segment_step env (itself into)) (field_step env (itself into))
+      (expr_step env (itself into)) (path_reading env (itself into)) (segment_step env (itself into)) (field_step env (itself into))
       (record_step env (itself into)) (stmt_step env (itself into)) (arm_step env (itself into)) (call_step env (itself into))
       (pat_step env (itself into)) (pat_field_step env (itself into)) (assoc_type_arg_step env (itself into))
       (param_step env (itself into)) (path_type_step env (itself into)) (type_bound_step env (itself into))
       (type_step env (itself into))
 
-  unfoldable pub fold_path : AstPath → Place → Path
+  unfoldable pub fold_path : AstPath → PathReading
   fold_path = folds.para-Path
       readings.ElseBranch readings.ExprKind readings.StmtKind readings.PatKind readings.GenericArg readings.TypeKind
       readings.BlockExpr readings.Expr readings.Path readings.PathSegment readings.RecordExprField readings.RecordExprFieldList
@@ -162,13 +162,13 @@ module _ (env : Answers) (into : Option Entering) where
       readings.PathType readings.TypeBound readings.Type_
       (else_branch env (itself into)) (kind_step env (itself into)) (stmt_kind env (itself into)) (pat_kind_step env (itself into))
       (generic_arg_step env (itself into)) (type_kind_step env (itself into)) (block_step env (itself into))
-      (expr_step env (itself into)) (path_step env (itself into)) (segment_step env (itself into)) (field_step env (itself into))
+      (expr_step env (itself into)) (path_reading env (itself into)) (segment_step env (itself into)) (field_step env (itself into))
       (record_step env (itself into)) (stmt_step env (itself into)) (arm_step env (itself into)) (call_step env (itself into))
       (pat_step env (itself into)) (pat_field_step env (itself into)) (assoc_type_arg_step env (itself into))
       (param_step env (itself into)) (path_type_step env (itself into)) (type_bound_step env (itself into))
       (type_step env (itself into))
 
-  unfoldable pub fold_segment : AstPathSegment → Place → Segment
+  unfoldable pub fold_segment : AstPathSegment → LowerCtx → Segment
   fold_segment = folds.para-PathSegment
       readings.ElseBranch readings.ExprKind readings.StmtKind readings.PatKind readings.GenericArg readings.TypeKind
       readings.BlockExpr readings.Expr readings.Path readings.PathSegment readings.RecordExprField readings.RecordExprFieldList
@@ -176,13 +176,13 @@ module _ (env : Answers) (into : Option Entering) where
       readings.PathType readings.TypeBound readings.Type_
       (else_branch env (itself into)) (kind_step env (itself into)) (stmt_kind env (itself into)) (pat_kind_step env (itself into))
       (generic_arg_step env (itself into)) (type_kind_step env (itself into)) (block_step env (itself into))
-      (expr_step env (itself into)) (path_step env (itself into)) (segment_step env (itself into)) (field_step env (itself into))
+      (expr_step env (itself into)) (path_reading env (itself into)) (segment_step env (itself into)) (field_step env (itself into))
       (record_step env (itself into)) (stmt_step env (itself into)) (arm_step env (itself into)) (call_step env (itself into))
       (pat_step env (itself into)) (pat_field_step env (itself into)) (assoc_type_arg_step env (itself into))
       (param_step env (itself into)) (path_type_step env (itself into)) (type_bound_step env (itself into))
       (type_step env (itself into))
 
-  unfoldable pub fold_field : AstRecordExprField → Place → Field
+  unfoldable pub fold_field : AstRecordExprField → LowerCtx → Field
   fold_field = folds.para-RecordExprField
       readings.ElseBranch readings.ExprKind readings.StmtKind readings.PatKind readings.GenericArg readings.TypeKind
       readings.BlockExpr readings.Expr readings.Path readings.PathSegment readings.RecordExprField readings.RecordExprFieldList
@@ -190,13 +190,13 @@ module _ (env : Answers) (into : Option Entering) where
       readings.PathType readings.TypeBound readings.Type_
       (else_branch env (itself into)) (kind_step env (itself into)) (stmt_kind env (itself into)) (pat_kind_step env (itself into))
       (generic_arg_step env (itself into)) (type_kind_step env (itself into)) (block_step env (itself into))
-      (expr_step env (itself into)) (path_step env (itself into)) (segment_step env (itself into)) (field_step env (itself into))
+      (expr_step env (itself into)) (path_reading env (itself into)) (segment_step env (itself into)) (field_step env (itself into))
       (record_step env (itself into)) (stmt_step env (itself into)) (arm_step env (itself into)) (call_step env (itself into))
       (pat_step env (itself into)) (pat_field_step env (itself into)) (assoc_type_arg_step env (itself into))
       (param_step env (itself into)) (path_type_step env (itself into)) (type_bound_step env (itself into))
       (type_step env (itself into))
 
-  unfoldable pub fold_record : AstRecordExprFieldList → Place → RecordReading
+  unfoldable pub fold_record : AstRecordExprFieldList → LowerCtx → RecordReading
   fold_record = folds.para-RecordExprFieldList
       readings.ElseBranch readings.ExprKind readings.StmtKind readings.PatKind readings.GenericArg readings.TypeKind
       readings.BlockExpr readings.Expr readings.Path readings.PathSegment readings.RecordExprField readings.RecordExprFieldList
@@ -204,13 +204,13 @@ module _ (env : Answers) (into : Option Entering) where
       readings.PathType readings.TypeBound readings.Type_
       (else_branch env (itself into)) (kind_step env (itself into)) (stmt_kind env (itself into)) (pat_kind_step env (itself into))
       (generic_arg_step env (itself into)) (type_kind_step env (itself into)) (block_step env (itself into))
-      (expr_step env (itself into)) (path_step env (itself into)) (segment_step env (itself into)) (field_step env (itself into))
+      (expr_step env (itself into)) (path_reading env (itself into)) (segment_step env (itself into)) (field_step env (itself into))
       (record_step env (itself into)) (stmt_step env (itself into)) (arm_step env (itself into)) (call_step env (itself into))
       (pat_step env (itself into)) (pat_field_step env (itself into)) (assoc_type_arg_step env (itself into))
       (param_step env (itself into)) (path_type_step env (itself into)) (type_bound_step env (itself into))
       (type_step env (itself into))
 
-  unfoldable pub fold_stmt : AstStmt → Place → Defined → StmtReading
+  unfoldable pub fold_stmt : AstStmt → LowerCtx → Defined → StmtReading
   fold_stmt = folds.para-Stmt
       readings.ElseBranch readings.ExprKind readings.StmtKind readings.PatKind readings.GenericArg readings.TypeKind
       readings.BlockExpr readings.Expr readings.Path readings.PathSegment readings.RecordExprField readings.RecordExprFieldList
@@ -218,13 +218,13 @@ module _ (env : Answers) (into : Option Entering) where
       readings.PathType readings.TypeBound readings.Type_
       (else_branch env (itself into)) (kind_step env (itself into)) (stmt_kind env (itself into)) (pat_kind_step env (itself into))
       (generic_arg_step env (itself into)) (type_kind_step env (itself into)) (block_step env (itself into))
-      (expr_step env (itself into)) (path_step env (itself into)) (segment_step env (itself into)) (field_step env (itself into))
+      (expr_step env (itself into)) (path_reading env (itself into)) (segment_step env (itself into)) (field_step env (itself into))
       (record_step env (itself into)) (stmt_step env (itself into)) (arm_step env (itself into)) (call_step env (itself into))
       (pat_step env (itself into)) (pat_field_step env (itself into)) (assoc_type_arg_step env (itself into))
       (param_step env (itself into)) (path_type_step env (itself into)) (type_bound_step env (itself into))
       (type_step env (itself into))
 
-  unfoldable pub fold_arm : AstMatchArm → Place → Arm
+  unfoldable pub fold_arm : AstMatchArm → LowerCtx → Arm
   fold_arm = folds.para-MatchArm
       readings.ElseBranch readings.ExprKind readings.StmtKind readings.PatKind readings.GenericArg readings.TypeKind
       readings.BlockExpr readings.Expr readings.Path readings.PathSegment readings.RecordExprField readings.RecordExprFieldList
@@ -232,7 +232,7 @@ module _ (env : Answers) (into : Option Entering) where
       readings.PathType readings.TypeBound readings.Type_
       (else_branch env (itself into)) (kind_step env (itself into)) (stmt_kind env (itself into)) (pat_kind_step env (itself into))
       (generic_arg_step env (itself into)) (type_kind_step env (itself into)) (block_step env (itself into))
-      (expr_step env (itself into)) (path_step env (itself into)) (segment_step env (itself into)) (field_step env (itself into))
+      (expr_step env (itself into)) (path_reading env (itself into)) (segment_step env (itself into)) (field_step env (itself into))
       (record_step env (itself into)) (stmt_step env (itself into)) (arm_step env (itself into)) (call_step env (itself into))
       (pat_step env (itself into)) (pat_field_step env (itself into)) (assoc_type_arg_step env (itself into))
       (param_step env (itself into)) (path_type_step env (itself into)) (type_bound_step env (itself into))
@@ -246,13 +246,13 @@ module _ (env : Answers) (into : Option Entering) where
       readings.PathType readings.TypeBound readings.Type_
       (else_branch env (itself into)) (kind_step env (itself into)) (stmt_kind env (itself into)) (pat_kind_step env (itself into))
       (generic_arg_step env (itself into)) (type_kind_step env (itself into)) (block_step env (itself into))
-      (expr_step env (itself into)) (path_step env (itself into)) (segment_step env (itself into)) (field_step env (itself into))
+      (expr_step env (itself into)) (path_reading env (itself into)) (segment_step env (itself into)) (field_step env (itself into))
       (record_step env (itself into)) (stmt_step env (itself into)) (arm_step env (itself into)) (call_step env (itself into))
       (pat_step env (itself into)) (pat_field_step env (itself into)) (assoc_type_arg_step env (itself into))
       (param_step env (itself into)) (path_type_step env (itself into)) (type_bound_step env (itself into))
       (type_step env (itself into))
 
-  unfoldable pub fold_pat : AstPat → Place → Pat
+  unfoldable pub fold_pat : AstPat → LowerCtx → Pat
   fold_pat = folds.para-Pat
       readings.ElseBranch readings.ExprKind readings.StmtKind readings.PatKind readings.GenericArg readings.TypeKind
       readings.BlockExpr readings.Expr readings.Path readings.PathSegment readings.RecordExprField readings.RecordExprFieldList
@@ -260,13 +260,13 @@ module _ (env : Answers) (into : Option Entering) where
       readings.PathType readings.TypeBound readings.Type_
       (else_branch env (itself into)) (kind_step env (itself into)) (stmt_kind env (itself into)) (pat_kind_step env (itself into))
       (generic_arg_step env (itself into)) (type_kind_step env (itself into)) (block_step env (itself into))
-      (expr_step env (itself into)) (path_step env (itself into)) (segment_step env (itself into)) (field_step env (itself into))
+      (expr_step env (itself into)) (path_reading env (itself into)) (segment_step env (itself into)) (field_step env (itself into))
       (record_step env (itself into)) (stmt_step env (itself into)) (arm_step env (itself into)) (call_step env (itself into))
       (pat_step env (itself into)) (pat_field_step env (itself into)) (assoc_type_arg_step env (itself into))
       (param_step env (itself into)) (path_type_step env (itself into)) (type_bound_step env (itself into))
       (type_step env (itself into))
 
-  unfoldable pub fold_pat_field : AstRecordPatField → Place → PatField
+  unfoldable pub fold_pat_field : AstRecordPatField → LowerCtx → PatField
   fold_pat_field = folds.para-RecordPatField
       readings.ElseBranch readings.ExprKind readings.StmtKind readings.PatKind readings.GenericArg readings.TypeKind
       readings.BlockExpr readings.Expr readings.Path readings.PathSegment readings.RecordExprField readings.RecordExprFieldList
@@ -274,13 +274,13 @@ module _ (env : Answers) (into : Option Entering) where
       readings.PathType readings.TypeBound readings.Type_
       (else_branch env (itself into)) (kind_step env (itself into)) (stmt_kind env (itself into)) (pat_kind_step env (itself into))
       (generic_arg_step env (itself into)) (type_kind_step env (itself into)) (block_step env (itself into))
-      (expr_step env (itself into)) (path_step env (itself into)) (segment_step env (itself into)) (field_step env (itself into))
+      (expr_step env (itself into)) (path_reading env (itself into)) (segment_step env (itself into)) (field_step env (itself into))
       (record_step env (itself into)) (stmt_step env (itself into)) (arm_step env (itself into)) (call_step env (itself into))
       (pat_step env (itself into)) (pat_field_step env (itself into)) (assoc_type_arg_step env (itself into))
       (param_step env (itself into)) (path_type_step env (itself into)) (type_bound_step env (itself into))
       (type_step env (itself into))
 
-  unfoldable pub fold_assoc_type_arg : AstAssocTypeArg → Place → Arg
+  unfoldable pub fold_assoc_type_arg : AstAssocTypeArg → LowerCtx → Arg
   fold_assoc_type_arg = folds.para-AssocTypeArg
       readings.ElseBranch readings.ExprKind readings.StmtKind readings.PatKind readings.GenericArg readings.TypeKind
       readings.BlockExpr readings.Expr readings.Path readings.PathSegment readings.RecordExprField readings.RecordExprFieldList
@@ -288,13 +288,13 @@ module _ (env : Answers) (into : Option Entering) where
       readings.PathType readings.TypeBound readings.Type_
       (else_branch env (itself into)) (kind_step env (itself into)) (stmt_kind env (itself into)) (pat_kind_step env (itself into))
       (generic_arg_step env (itself into)) (type_kind_step env (itself into)) (block_step env (itself into))
-      (expr_step env (itself into)) (path_step env (itself into)) (segment_step env (itself into)) (field_step env (itself into))
+      (expr_step env (itself into)) (path_reading env (itself into)) (segment_step env (itself into)) (field_step env (itself into))
       (record_step env (itself into)) (stmt_step env (itself into)) (arm_step env (itself into)) (call_step env (itself into))
       (pat_step env (itself into)) (pat_field_step env (itself into)) (assoc_type_arg_step env (itself into))
       (param_step env (itself into)) (path_type_step env (itself into)) (type_bound_step env (itself into))
       (type_step env (itself into))
 
-  unfoldable pub fold_param : AstParam → Place → ParamReading
+  unfoldable pub fold_param : AstParam → LowerCtx → ParamReading
   fold_param = folds.para-Param
       readings.ElseBranch readings.ExprKind readings.StmtKind readings.PatKind readings.GenericArg readings.TypeKind
       readings.BlockExpr readings.Expr readings.Path readings.PathSegment readings.RecordExprField readings.RecordExprFieldList
@@ -302,13 +302,13 @@ module _ (env : Answers) (into : Option Entering) where
       readings.PathType readings.TypeBound readings.Type_
       (else_branch env (itself into)) (kind_step env (itself into)) (stmt_kind env (itself into)) (pat_kind_step env (itself into))
       (generic_arg_step env (itself into)) (type_kind_step env (itself into)) (block_step env (itself into))
-      (expr_step env (itself into)) (path_step env (itself into)) (segment_step env (itself into)) (field_step env (itself into))
+      (expr_step env (itself into)) (path_reading env (itself into)) (segment_step env (itself into)) (field_step env (itself into))
       (record_step env (itself into)) (stmt_step env (itself into)) (arm_step env (itself into)) (call_step env (itself into))
       (pat_step env (itself into)) (pat_field_step env (itself into)) (assoc_type_arg_step env (itself into))
       (param_step env (itself into)) (path_type_step env (itself into)) (type_bound_step env (itself into))
       (type_step env (itself into))
 
-  unfoldable pub fold_path_type : AstPathType → Place → PathTypeReading
+  unfoldable pub fold_path_type : AstPathType → LowerCtx → PathTypeReading
   fold_path_type = folds.para-PathType
       readings.ElseBranch readings.ExprKind readings.StmtKind readings.PatKind readings.GenericArg readings.TypeKind
       readings.BlockExpr readings.Expr readings.Path readings.PathSegment readings.RecordExprField readings.RecordExprFieldList
@@ -316,13 +316,13 @@ module _ (env : Answers) (into : Option Entering) where
       readings.PathType readings.TypeBound readings.Type_
       (else_branch env (itself into)) (kind_step env (itself into)) (stmt_kind env (itself into)) (pat_kind_step env (itself into))
       (generic_arg_step env (itself into)) (type_kind_step env (itself into)) (block_step env (itself into))
-      (expr_step env (itself into)) (path_step env (itself into)) (segment_step env (itself into)) (field_step env (itself into))
+      (expr_step env (itself into)) (path_reading env (itself into)) (segment_step env (itself into)) (field_step env (itself into))
       (record_step env (itself into)) (stmt_step env (itself into)) (arm_step env (itself into)) (call_step env (itself into))
       (pat_step env (itself into)) (pat_field_step env (itself into)) (assoc_type_arg_step env (itself into))
       (param_step env (itself into)) (path_type_step env (itself into)) (type_bound_step env (itself into))
       (type_step env (itself into))
 
-  unfoldable pub fold_type_bound : AstTypeBound → Place → Bound
+  unfoldable pub fold_type_bound : AstTypeBound → LowerCtx → Bound
   fold_type_bound = folds.para-TypeBound
       readings.ElseBranch readings.ExprKind readings.StmtKind readings.PatKind readings.GenericArg readings.TypeKind
       readings.BlockExpr readings.Expr readings.Path readings.PathSegment readings.RecordExprField readings.RecordExprFieldList
@@ -330,13 +330,13 @@ module _ (env : Answers) (into : Option Entering) where
       readings.PathType readings.TypeBound readings.Type_
       (else_branch env (itself into)) (kind_step env (itself into)) (stmt_kind env (itself into)) (pat_kind_step env (itself into))
       (generic_arg_step env (itself into)) (type_kind_step env (itself into)) (block_step env (itself into))
-      (expr_step env (itself into)) (path_step env (itself into)) (segment_step env (itself into)) (field_step env (itself into))
+      (expr_step env (itself into)) (path_reading env (itself into)) (segment_step env (itself into)) (field_step env (itself into))
       (record_step env (itself into)) (stmt_step env (itself into)) (arm_step env (itself into)) (call_step env (itself into))
       (pat_step env (itself into)) (pat_field_step env (itself into)) (assoc_type_arg_step env (itself into))
       (param_step env (itself into)) (path_type_step env (itself into)) (type_bound_step env (itself into))
       (type_step env (itself into))
 
-  unfoldable pub fold_type : AstType_ → Place → Type_
+  unfoldable pub fold_type : AstType_ → LowerCtx → Type_
   fold_type = folds.para-Type_
       readings.ElseBranch readings.ExprKind readings.StmtKind readings.PatKind readings.GenericArg readings.TypeKind
       readings.BlockExpr readings.Expr readings.Path readings.PathSegment readings.RecordExprField readings.RecordExprFieldList
@@ -344,80 +344,83 @@ module _ (env : Answers) (into : Option Entering) where
       readings.PathType readings.TypeBound readings.Type_
       (else_branch env (itself into)) (kind_step env (itself into)) (stmt_kind env (itself into)) (pat_kind_step env (itself into))
       (generic_arg_step env (itself into)) (type_kind_step env (itself into)) (block_step env (itself into))
-      (expr_step env (itself into)) (path_step env (itself into)) (segment_step env (itself into)) (field_step env (itself into))
+      (expr_step env (itself into)) (path_reading env (itself into)) (segment_step env (itself into)) (field_step env (itself into))
       (record_step env (itself into)) (stmt_step env (itself into)) (arm_step env (itself into)) (call_step env (itself into))
       (pat_step env (itself into)) (pat_field_step env (itself into)) (assoc_type_arg_step env (itself into))
       (param_step env (itself into)) (path_type_step env (itself into)) (type_bound_step env (itself into))
       (type_step env (itself into))
 
-  abbrev pub read_else_branch : AstElseBranch → Place → Expr
+  abbrev pub read_else_branch : AstElseBranch → LowerCtx → Expr
   read_else_branch = fold_else_branch
 
-  abbrev pub read_expr_kind : AstExprKind → AstPtr → Place → Expr
+  abbrev pub read_expr_kind : AstExprKind → AstPtr → LowerCtx → Expr
   read_expr_kind e = (fold_expr_kind e).expr
 
-  abbrev pub read_stmt_kind : AstStmtKind → AstPtr → Place → Defined → StmtReading
+  abbrev pub read_stmt_kind : AstStmtKind → AstPtr → LowerCtx → Defined → StmtReading
   read_stmt_kind = fold_stmt_kind
 
-  abbrev pub read_pat_kind : AstPatKind → AstPtr → Place → Pat
+  abbrev pub read_pat_kind : AstPatKind → AstPtr → LowerCtx → Pat
   read_pat_kind = fold_pat_kind
 
-  abbrev pub read_generic_arg : AstGenericArg → Place → Arg
+  abbrev pub read_generic_arg : AstGenericArg → LowerCtx → Arg
   read_generic_arg = fold_generic_arg
 
-  abbrev pub read_type_kind : AstTypeKind → AstPtr → Place → Type_
+  abbrev pub read_type_kind : AstTypeKind → AstPtr → LowerCtx → Type_
   read_type_kind = fold_type_kind
 
   abbrev pub read_block : AstBlockExpr → BlockReading
   read_block = fold_block
 
-  abbrev pub read_expr : AstExpr → Place → Expr
+  abbrev pub read_expr : AstExpr → LowerCtx → Expr
   read_expr e = (fold_expr e).expr
 
-  abbrev pub read_path : AstPath → Place → Path
-  read_path = fold_path
+  abbrev pub read_path : AstPath → LowerCtx → Path
+  read_path x = (fold_path x).alone
 
-  abbrev pub read_segment : AstPathSegment → Place → Segment
+  abbrev pub read_use_tree : AstPath → LowerCtx → Path
+  read_use_tree x = (fold_path x).use_tree
+
+  abbrev pub read_segment : AstPathSegment → LowerCtx → Segment
   read_segment = fold_segment
 
-  abbrev pub read_field : AstRecordExprField → Place → Field
+  abbrev pub read_field : AstRecordExprField → LowerCtx → Field
   read_field = fold_field
 
-  abbrev pub read_record : AstRecordExprFieldList → Place → RecordReading
+  abbrev pub read_record : AstRecordExprFieldList → LowerCtx → RecordReading
   read_record = fold_record
 
-  abbrev pub read_stmt : AstStmt → Place → Defined → StmtReading
+  abbrev pub read_stmt : AstStmt → LowerCtx → Defined → StmtReading
   read_stmt = fold_stmt
 
-  abbrev pub read_arm : AstMatchArm → Place → Arm
+  abbrev pub read_arm : AstMatchArm → LowerCtx → Arm
   read_arm = fold_arm
 
-  abbrev pub read_pat : AstPat → Place → Pat
+  abbrev pub read_pat : AstPat → LowerCtx → Pat
   read_pat = fold_pat
 
-  abbrev pub read_pat_field : AstRecordPatField → Place → PatField
+  abbrev pub read_pat_field : AstRecordPatField → LowerCtx → PatField
   read_pat_field = fold_pat_field
 
-  abbrev pub read_assoc_type_arg : AstAssocTypeArg → Place → Arg
+  abbrev pub read_assoc_type_arg : AstAssocTypeArg → LowerCtx → Arg
   read_assoc_type_arg = fold_assoc_type_arg
 
-  abbrev pub read_param : AstParam → Place → ParamReading
+  abbrev pub read_param : AstParam → LowerCtx → ParamReading
   read_param = fold_param
 
-  abbrev pub read_path_type : AstPathType → Place → PathTypeReading
+  abbrev pub read_path_type : AstPathType → LowerCtx → PathTypeReading
   read_path_type = fold_path_type
 
-  abbrev pub read_type_bound : AstTypeBound → Place → Bound
+  abbrev pub read_type_bound : AstTypeBound → LowerCtx → Bound
   read_type_bound = fold_type_bound
 
-  abbrev pub read_type : AstType_ → Place → Type_
+  abbrev pub read_type : AstType_ → LowerCtx → Type_
   read_type = fold_type
 
-  abbrev pub read_value_kind : AstExprKind → AstPtr → Place → Defined → Spliced
+  abbrev pub read_value_kind : AstExprKind → AstPtr → LowerCtx → Defined → Spliced
   read_value_kind e = (fold_expr_kind e).value
 
   -- in statement or tail place
-  abbrev pub read_value : AstExpr → Place → Defined → Spliced
+  abbrev pub read_value : AstExpr → LowerCtx → Defined → Spliced
   read_value e = (fold_expr e).value
 
   abbrev pub reader : Reader written
@@ -432,6 +435,7 @@ module _ (env : Answers) (into : Option Entering) where
     block_expr = read_block;
     expr = read_expr;
     path = read_path;
+    use_tree = read_use_tree;
     segment = read_segment;
     segment_node = λ s. (out-PathSegment s).id;
     field = read_field;
@@ -451,25 +455,25 @@ module _ (env : Answers) (into : Option Entering) where
   }
 
   -- the parts that are no nodes of their own
-  abbrev pub read_constant : AstConstArg → Place → Constant
+  abbrev pub read_constant : AstConstArg → LowerCtx → Constant
   read_constant = constant_step env reader
 
-  abbrev pub read_guard : AstGuard → Place → OptionExpr
+  abbrev pub read_guard : AstGuard → LowerCtx → OptionExpr
   read_guard = guard_step env reader
 
-  abbrev pub read_let_else : AstLetElse → Place → OptionBlock
+  abbrev pub read_let_else : AstLetElse → LowerCtx → OptionBlock
   read_let_else = let_else_step env reader
 
-  abbrev pub read_ret_type : AstRetType → Place → OptionType
+  abbrev pub read_ret_type : AstRetType → LowerCtx → OptionType
   read_ret_type = ret_type_step env reader
 
-  abbrev pub read_type_arg : AstTypeArg → Place → OptionType
+  abbrev pub read_type_arg : AstTypeArg → LowerCtx → OptionType
   read_type_arg = type_arg_step env reader
 
-  abbrev pub read_paren_args : AstParenArgs → Place → Parts
+  abbrev pub read_paren_args : AstParenArgs → LowerCtx → Parts
   read_paren_args = paren_args_step env reader
 
-  abbrev pub read_generic_arg_list : AstGenericArgList → Place → Args
+  abbrev pub read_generic_arg_list : AstGenericArgList → LowerCtx → Args
   read_generic_arg_list = generic_arg_list_step env reader
 
 -- how that is read which calls stand for, where so many may be entered one in the other

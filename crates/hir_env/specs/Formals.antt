@@ -11,12 +11,12 @@ use Rattle.hir_store.specs.declared.ids.ItemContainerId.{ItemContainerId}
 use Rattle.hir_store.specs.declared.ids.ItemContainerId.TheVariants as holder
 use Rattle.hir_store.specs.Names.{IsWritten}
 use Rattle.hir_store.specs.declared.name.Name.TheVariants as name
-use Rattle.hir_env.specs.Spot.{Spot, site_of}
+use Rattle.hir_env.specs.ResolveCtx.{ResolveCtx, site_of}
 use Rattle.hir_env.specs.TypePats.{bare_part}
 use Rattle.hir_env.specs.Pats.{name_hygiene}
 use Rattle.hir_env.specs.Whole.{pointer_at, pat_part}
-use Rattle.hir_env.specs.Answered as tree
-use Rattle.hir_env.specs.Answered.{Use, OptionPat, SelfFormal, Formal, Formals}
+use Rattle.hir_env.specs.ResolvedTree as tree
+use Rattle.hir_env.specs.ResolvedTree.{Use, OptionPat, SelfFormal, Formal, Formals}
 
 -- whether the parameters of a function may only be plain names: in an extern block, and in a trait where it has no body
 abbrev pub are_bare : ItemContainerId → Bool → Bool
@@ -33,16 +33,16 @@ abbrev pub asked_self : Pointer → Result (Unit {0}) CfgId → (u : Use) → Is
 asked_self s (Ok _) u w = tree.self_formal s u w
 asked_self s (Err by) u w = tree.disabled_self s by
 
-abbrev pub self_use : Spot → AstSelfParam → Use
+abbrev pub self_use : ResolveCtx → AstSelfParam → Use
 self_use at x = record {
   name = name.Text (codes "self");
   hygiene = name_hygiene at.answers at.place x.name;
   mode = self_mode x.ref_ x.mut_;
 }
 
-abbrev pub answered_self : Spot → Option AstSelfParam → SelfFormal
-answered_self at None = tree.no_self
-answered_self at (Some x) = let s = pointer_at at x.id x.range in asked_self s (at.answers.cfg (site_of s)) (self_use at x) tt
+abbrev pub resolved_self : ResolveCtx → Option AstSelfParam → SelfFormal
+resolved_self at None = tree.no_self
+resolved_self at (Some x) = let s = pointer_at at x.id x.range in asked_self s (at.answers.cfg (site_of s)) (self_use at x) tt
 
 abbrev pub asked_formal : Pointer → Result (Unit {0}) CfgId → Formal → Formal
 asked_formal s (Ok _) f = f
@@ -53,14 +53,14 @@ abbrev pub formal_part : Bool → OptionPat → OptionPat
 formal_part bare q = if bare then bare_part q else q
 
 -- of a function whose parameters may only be plain names, or may not
-abbrev pub answered_formal : Spot → Bool → AstParam → Formal
-answered_formal at bare x = let level = out-Param x in
+abbrev pub resolved_formal : ResolveCtx → Bool → AstParam → Formal
+resolved_formal at bare x = let level = out-Param x in
     let s = pointer_at at level.id level.range in
     asked_formal s (at.answers.cfg (site_of s)) (tree.formal (formal_part bare (pat_part at level.pat)))
 
-abbrev pub formals_part : Spot → Bool → List AstParam → List Formal
-formals_part at bare xs = map (answered_formal at bare) xs
+abbrev pub formals_part : ResolveCtx → Bool → List AstParam → List Formal
+formals_part at bare xs = map (resolved_formal at bare) xs
 
-abbrev pub answered_formals : Spot → Bool → Option AstParamList → Formals
-answered_formals at bare None = record { receiver = tree.no_self; formals = [] }
-answered_formals at bare (Some x) = record { receiver = answered_self at x.self_; formals = formals_part at bare x.params }
+abbrev pub resolved_formals : ResolveCtx → Bool → Option AstParamList → Formals
+resolved_formals at bare None = record { receiver = tree.no_self; formals = [] }
+resolved_formals at bare (Some x) = record { receiver = resolved_self at x.self_; formals = formals_part at bare x.params }

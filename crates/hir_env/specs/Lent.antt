@@ -10,7 +10,7 @@ abbrev pub fragment_lent : Option (Bor AstFragment) → Option AstFragment
 fragment_lent None = None
 fragment_lent (Some f) = Some f.now
 
-abbrev pub shown : Expansion → Expanding
-shown (lent.Unresolved x) = unresolved x.now
-shown lent.NoExpansion = no_expansion
-shown (lent.Expanded f root es) = expanded f (fragment_lent root) es.now
+abbrev pub expanding_of : Expansion → Expanding
+expanding_of (lent.Unresolved x) = unresolved x.now
+expanding_of lent.NoExpansion = no_expansion
+expanding_of (lent.Expanded f root es) = expanded f (fragment_lent root) es.now

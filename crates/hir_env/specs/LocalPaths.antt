@@ -1,4 +1,4 @@
--- A path of one segment that stands directly in a call of a macro. Where the macro that its segment came from is local to its crate,
+-- A path of one segment that stands directly in a macro call. Where the macro that its segment came from is local to its crate,
 -- and it is one name that begins nowhere, it begins at the root of that crate. One that the text lacks is refused.
 use Rattle.std.specs.Prelude.{if◌then◌else◌, Bool, true, false, ◌&&◌, List, [], ◌∷◌, Option, Some, None}
 use Rattle.hir_store.specs.declared.ids.CrateId.{CrateId}
@@ -6,8 +6,8 @@ use Rattle.hir_store.specs.declared.ids.CtxId.{CtxId}
 use Rattle.hir_store.specs.declared.name.Name.{Name}
 use Rattle.hir_store.specs.declared.path.ModPath.{ModPath}
 use Rattle.hir_env.specs.Answers.{Answers}
-use Rattle.hir_env.specs.Answered as tree
-use Rattle.hir_env.specs.Answered.{Path}
+use Rattle.hir_env.specs.ResolvedTree as tree
+use Rattle.hir_env.specs.ResolvedTree.{Path}
 use Rattle.hir_env.specs.PathNames.{is_plain, mod_path_of}
 
 abbrev is_one : List Name → Bool
@@ -34,6 +34,6 @@ at_local_root None x = x
 at_local_root (Some root) x = if is_bare (mod_path_of (tree.some_path x)) then behind_root root x else x
 
 -- one that the text lacks begins somewhere where `::` stands in front of it
-abbrev pub lacking : Bool → Path → Path
-lacking true x = x
-lacking false x = tree.path None false tree.broken_segment tree.no_segments tree.no_path
+abbrev pub or_broken : Bool → Path → Path
+or_broken true x = x
+or_broken false x = tree.path None false tree.broken_segment tree.no_segments tree.no_path

@@ -8,8 +8,8 @@ use Rattle.hir_store.specs.declared.name.Name.TheVariants as name
 use Rattle.hir_store.specs.declared.path.ModPath.{ModPath}
 use Rattle.hir_store.specs.declared.path.PathKind.{PathKind}
 use Rattle.hir_store.specs.declared.path.PathKind.TheVariants as kind
-use Rattle.hir_env.specs.Answered as tree
-use Rattle.hir_env.specs.Answered.{Path, OptionPath, Segments, Segment}
+use Rattle.hir_env.specs.ResolvedTree as tree
+use Rattle.hir_env.specs.ResolvedTree.{Path, OptionPath, Segments, Segment}
 
 -- a segment where it stands
 pub data Piece : Type 0 where

@@ -16,20 +16,20 @@ use Rattle.hir_store.specs.Names.{IsWritten}
 use Rattle.hir_store.specs.declared.name.Name.TheVariants as name
 use Rattle.hir_store.specs.declared.path.ModPath.{ModPath}
 use Rattle.hir_store.specs.declared.path.PathKind.TheVariants as kind
-use Rattle.hir_env.specs.declared.place.Place.{Place}
+use Rattle.hir_env.specs.declared.ctx.LowerCtx.{LowerCtx}
 use Rattle.hir_env.specs.declared.resolved.Resolution.{Resolution}
 use Rattle.hir_env.specs.declared.resolved.Resolution.TheVariants as resolution
-use Rattle.hir_env.specs.declared.resolved.Shadow.TheVariants as shadow
+use Rattle.hir_env.specs.declared.resolved.BuiltinShadowMode.TheVariants as shadow
 use Rattle.hir_env.specs.Answers.{Answers}
-use Rattle.hir_env.specs.Spot.{in_file, ptr, site_of}
+use Rattle.hir_env.specs.ResolveCtx.{in_file, ptr, site_of}
 use Rattle.hir_env.specs.Layers.{Sorts, Reader}
 use Rattle.hir_env.specs.PatLayers.{PatKindLayer, PatLayer, RecordPatFieldLayer}
 use Rattle.hir_env.specs.Paths.{path_or_none, pat_or_none, mutability}
 use Rattle.hir_env.specs.TypePats.{is_plain}
 use Rattle.hir_env.specs.Answering.{name_or_missing, name_written, truth}
 use Rattle.hir_env.specs.Calls.{entered_pat}
-use Rattle.hir_env.specs.Answered as tree
-use Rattle.hir_env.specs.Answered.{Use, Pat, OptionPat, Pats, PatFields, PatField, Side}
+use Rattle.hir_env.specs.ResolvedTree as tree
+use Rattle.hir_env.specs.ResolvedTree.{Use, Pat, OptionPat, Pats, PatFields, PatField, Side}
 
 -- names
 
@@ -40,11 +40,11 @@ mode_of true false = binding.Ref
 mode_of true true = binding.RefMut
 
 -- that of its node, or the root's where it is absent
-abbrev pub name_hygiene : Answers → Place → Option AstName → HygieneId
+abbrev pub name_hygiene : Answers → LowerCtx → Option AstName → HygieneId
 name_hygiene env p None = record { 0 = 0 }
 name_hygiene env p (Some n) = env.hygiene (site_of (in_file p (ptr n.id n.range)))
 
-abbrev pub use_at : Answers → Place → Option AstName → Bool → Bool → Use
+abbrev pub use_at : Answers → LowerCtx → Option AstName → Bool → Bool → Use
 use_at env p n is_ref is_mut = record { name = name_or_missing n; hygiene = name_hygiene env p n; mode = mode_of is_ref is_mut }
 
 abbrev pub plain_path : Name → ModPath
@@ -58,14 +58,14 @@ is_constant (Some resolution.Struct) = true
 is_constant _ = false
 
 -- whether a name is found, be it in part
-abbrev pub is_found : Answers → Place → Name → Bool
+abbrev pub is_found : Answers → LowerCtx → Name → Bool
 is_found env p n = is_constant (env.resolve p.module_id (plain_path n) shadow.Other).values
 
 abbrev pub name_or_bind : Bool → Pointer → (u : Use) → IsWritten u.name → OptionPat → Pat
 name_or_bind true s u w q = tree.name_pat s u w
 name_or_bind false s u w q = tree.bind_pat s u w q
 
-abbrev pub ident_pat : Answers → Place → Pointer → (u : Use) → IsWritten u.name → OptionPat → Pat
+abbrev pub ident_pat : Answers → LowerCtx → Pointer → (u : Use) → IsWritten u.name → OptionPat → Pat
 ident_pat env p s u w q = name_or_bind (is_plain u q && is_found env p u.name) s u w q
 
 -- literals and sides
@@ -80,7 +80,7 @@ abbrev pub minus_fits : Bool → LiteralKind → Bool
 minus_fits false k = true
 minus_fits true k = is_number k
 
-abbrev pub literal_or_broken : Place → Pointer → Option PatLiteral → Bool → Pat
+abbrev pub literal_or_broken : LowerCtx → Pointer → Option PatLiteral → Bool → Pat
 literal_or_broken p s None minus = tree.leaf_pat s tree.broken_leaf
 literal_or_broken p s (Some l) minus =
     if minus_fits minus l.literal.lit
@@ -112,11 +112,11 @@ pat_field_of s n (tree.some_pat q) = tree.pat_field s (option_map (λ m. name.Te
 
 -- lists
 
-abbrev pub pats_of : {A : Type 0} → (A → Place → Pat) → List A → Place → Pats
+abbrev pub pats_of : {A : Type 0} → (A → LowerCtx → Pat) → List A → LowerCtx → Pats
 pats_of read [] p = tree.no_pats
 pats_of read (x ∷ xs) p = tree.more_pats (read x p) (pats_of read xs p)
 
-abbrev pub pat_fields_of : {A : Type 0} → (A → Place → PatField) → List A → Place → PatFields
+abbrev pub pat_fields_of : {A : Type 0} → (A → LowerCtx → PatField) → List A → LowerCtx → PatFields
 pat_fields_of read [] p = tree.no_pat_fields
 pat_fields_of read (x ∷ xs) p = tree.more_pat_fields (read x p) (pat_fields_of read xs p)
 
@@ -128,7 +128,7 @@ is_rest p = false
 
 -- two dots, behind the calls that they come out of
 abbrev pub rest_in : Pat → Pats → Pats
-rest_in (tree.macro_pat s called (tree.some_pat p)) ps = tree.noted_pats called (rest_in p ps)
+rest_in (tree.macro_pat s called (tree.some_pat p)) ps = tree.tracked_pats called (rest_in p ps)
 rest_in p ps = tree.more_pats p ps
 
 -- An element of a tuple or a call is missing at its own node where it is a call that the text lacks, also one that a call stands for.
@@ -140,18 +140,18 @@ element_of p = p
 abbrev pub element_in : Pat → Pats → Pats
 element_in p ps = if is_rest p then rest_in p ps else tree.more_pats (element_of p) ps
 
-abbrev pub elements_of : {A : Type 0} → (A → Place → Pat) → List A → Place → Pats
+abbrev pub elements_of : {A : Type 0} → (A → LowerCtx → Pat) → List A → LowerCtx → Pats
 elements_of read [] p = tree.no_pats
 elements_of read (x ∷ xs) p = element_in (read x p) (elements_of read xs p)
 
 -- one level
 
-abbrev pub macro_pat_at : Answers → {S : Sorts} → Reader S → Option S.MacroCall → Place → Pointer → Pat
+abbrev pub macro_pat_at : Answers → {S : Sorts} → Reader S → Option S.MacroCall → LowerCtx → Pointer → Pat
 macro_pat_at env part None p s = tree.macro_pat s tree.callless tree.no_pat
 macro_pat_at env part (Some c) p s = entered_pat env part.into (part.macro_call c) p s
 
 module _ (env : Answers) {S : Sorts} (part : Reader S) where
-  abbrev pub pat_at : PatKindLayer S → Place → Pointer → Pat
+  abbrev pub pat_at : PatKindLayer S → LowerCtx → Pointer → Pat
   pat_at (PatKind-F.IdentPat n is_ref is_mut x) p s =
       ident_pat env p s (use_at env p n is_ref is_mut) (name_written n) (pat_or_none part.pat x p)
   pat_at (PatKind-F.TupleStructPat x comma xs) p s =
@@ -177,14 +177,14 @@ module _ (env : Answers) {S : Sorts} (part : Reader S) where
   pat_at PatKind-F.NotNullPat p s = tree.leaf_pat s tree.not_null_leaf
   pat_at PatKind-F.ConstBlockPat p s = tree.leaf_pat s tree.broken_leaf
 
-  abbrev pub pat_kind_step : PatKindLayer S → AstPtr → Place → Pat
+  abbrev pub pat_kind_step : PatKindLayer S → AstPtr → LowerCtx → Pat
   pat_kind_step k n p = pat_at k p (in_file p n)
 
-  abbrev pub pat_step : PatLayer S → Place → Pat
+  abbrev pub pat_step : PatLayer S → LowerCtx → Pat
   pat_step x = part.pat_kind x.kind (ptr x.id x.range)
 
-  abbrev pub pat_field_at : RecordPatFieldLayer S → Place → Pointer → PatField
+  abbrev pub pat_field_at : RecordPatFieldLayer S → LowerCtx → Pointer → PatField
   pat_field_at x p s = asked_pat_field s (env.cfg (site_of s)) (pat_field_of s x.name (pat_or_none part.pat x.pat p))
 
-  abbrev pub pat_field_step : RecordPatFieldLayer S → Place → PatField
+  abbrev pub pat_field_step : RecordPatFieldLayer S → LowerCtx → PatField
   pat_field_step x p = pat_field_at x p (in_file p (ptr x.id x.range))

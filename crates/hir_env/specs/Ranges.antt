@@ -6,8 +6,8 @@ use Rattle.hir_store.specs.declared.ids.LangItemId.{LangItemId}
 use Rattle.hir_store.specs.declared.name.Name.{Name}
 use Rattle.hir_store.specs.declared.name.Name.TheVariants as name
 use Rattle.hir_env.specs.declared.lang.LangItems.{LangItems}
-use Rattle.hir_env.specs.Answered as tree
-use Rattle.hir_env.specs.Answered.{RangeForm}
+use Rattle.hir_env.specs.ResolvedTree as tree
+use Rattle.hir_env.specs.ResolvedTree.{RangeForm}
 
 -- without an operator it is as with `..`
 abbrev pub is_inclusive : Option RangeOp → Bool

@@ -3,16 +3,16 @@ use Rattle.std.specs.Prelude.{if◌then◌else◌, Bool, true, false, Option, So
 use Rattle.hir_store.specs.Pointers.{Pointer}
 use Rattle.hir_store.specs.declared.ids.HygieneId.{HygieneId}
 use Rattle.hir_store.specs.declared.path.ModPath.{ModPath}
-use Rattle.hir_env.specs.declared.place.Place.{Place}
+use Rattle.hir_env.specs.declared.ctx.LowerCtx.{LowerCtx}
 use Rattle.hir_env.specs.declared.resolved.Resolution.{Resolution}
 use Rattle.hir_env.specs.declared.resolved.Resolution.TheVariants as resolution
 use Rattle.hir_env.specs.declared.resolved.Resolved.{Resolved}
-use Rattle.hir_env.specs.declared.resolved.Shadow.TheVariants as shadow
+use Rattle.hir_env.specs.declared.resolved.BuiltinShadowMode.TheVariants as shadow
 use Rattle.hir_env.specs.Answers.{Answers}
 use Rattle.hir_env.specs.PathNames.{mod_path_of}
-use Rattle.hir_env.specs.Answered as tree
-use Rattle.hir_env.specs.Answered.{Path, OptionPath, Expr, OptionExpr, Exprs, Fields, Field, Spread, Block, Target, Targets}
-use Rattle.hir_env.specs.Answered.{Called, Origin, TargetFields, TargetField}
+use Rattle.hir_env.specs.ResolvedTree as tree
+use Rattle.hir_env.specs.ResolvedTree.{Path, OptionPath, Expr, OptionExpr, Exprs, Fields, Field, Spread, Block, Target, Targets}
+use Rattle.hir_env.specs.ResolvedTree.{Called, Origin, TargetFields, TargetField}
 
 abbrev pub block_pointer : Block → Pointer
 block_pointer (tree.block at is_unsafe label _ number ss e) = at
@@ -79,7 +79,7 @@ is_pattern _ = false
 abbrev pub is_target : Resolved → Bool
 is_target r = if is_some r.rest then is_some r.types else is_pattern r.values
 
-module _ (env : Answers) (p : Place) where
+module _ (env : Answers) (p : LowerCtx) where
   abbrev pub names_target : Option ModPath → Bool
   names_target None = false
   names_target (Some names) = is_target (env.resolve p.module_id names shadow.Local)
@@ -121,10 +121,10 @@ dots_pointer tree.no_exprs = None
 dots_pointer (tree.more_exprs e es) = if comes_to_dots e then Some (pointer_of e) else dots_pointer es
 
 -- the calls that two dots come out of, in front of these
-abbrev pub noted_in : Expr → Targets → Targets
-noted_in (tree.disabled_expr why e) ts = noted_in e ts
-noted_in (tree.macro_expr s c (tree.some_expr e)) ts = tree.noted_targets c (noted_in e ts)
-noted_in _ ts = ts
+abbrev pub tracked_in : Expr → Targets → Targets
+tracked_in (tree.disabled_expr why e) ts = tracked_in e ts
+tracked_in (tree.macro_expr s c (tree.some_expr e)) ts = tree.tracked_targets c (tracked_in e ts)
+tracked_in _ ts = ts
 
 -- targets
 
@@ -143,7 +143,13 @@ source_of at = outermost at.call at.node
 abbrev pub place_of : Option Pointer → Expr → Target
 place_of call e = tree.place_target (outermost call (pointer_of e)) e
 
--- A call that is an element leads nowhere, but for one that the text lacks: that leads to what is missing.
+-- what is disabled: a place, except for a call that stands for such an expression, which is what that is
+abbrev pub gone_or : Option Pointer → Target → Expr → Target
+gone_or call place (tree.macro_expr s c (tree.some_expr (tree.disabled_expr why e))) =
+    tree.macro_target (Some s) c (gone_or call (place_of call (tree.disabled_expr why e)) e)
+gone_or call place _ = place
+
+-- A call that is an element leads nowhere, except for one that the text lacks: that leads to what is missing.
 abbrev pub node_of_lacking : Called → Pointer → Option Pointer
 node_of_lacking tree.callless at = Some at
 node_of_lacking _ at = None
@@ -169,9 +175,10 @@ module _ (is_found : Path → Bool) where
   path_or place at (tree.some_path p) h = if is_found p then tree.path_target at p h else place
 
   abbrev mutual
-    -- With the outermost call, where it is an element that comes out of calls, and what it is as a place: a disabled expression is
-    -- one, and each that isn't named here. Parentheses are what stands in them, and a call is what it stands for.
+    -- With the outermost call, where it is an element that comes out of calls, and what it is as a place: each is one that isn't
+    -- named here. Parentheses are what stands in them, and a call is what it stands for.
     pub target_or : Option Pointer → Target → Expr → Target
+    target_or call place (tree.disabled_expr why e) = gone_or call place e
     target_or call place (tree.leaf_expr at tree.underscore) = tree.wild_target (origin call at)
     target_or call place (tree.paren_expr at tree.no_expr) = place
     target_or call place (tree.paren_expr at (tree.some_expr e)) =
@@ -204,14 +211,14 @@ module _ (is_found : Path → Bool) where
     -- of a tuple or a call
     pub elements : Exprs → Targets
     elements tree.no_exprs = tree.no_targets
-    elements (tree.more_exprs e es) = if comes_to_dots e then noted_in e (tree.dots_targets (elements es))
+    elements (tree.more_exprs e es) = if comes_to_dots e then tracked_in e (tree.dots_targets (elements es))
         else tree.more_targets (element_or None (target_or None (place_of None e) e) e) (elements es)
 
     -- of an array, in front of its first two dots, with the calls that these come out of, and behind them
     pub before_dots : Exprs → Targets
     before_dots tree.no_exprs = tree.no_targets
     before_dots (tree.more_exprs e es) =
-        if comes_to_dots e then noted_in e tree.no_targets
+        if comes_to_dots e then tracked_in e tree.no_targets
         else tree.more_targets (element_or None (target_or None (place_of None e) e) e) (before_dots es)
 
     pub behind_dots : Exprs → Targets

@@ -3,7 +3,7 @@ use Rattle.hir_syntax.specs.declared.ast.ElseBranch.TheOpen.{GenericArg-F, TypeK
 use Rattle.hir_syntax.specs.declared.ast.ElseBranch.TheOpen.{Param-F, PathType-F}
 use Rattle.hir_syntax.specs.declared.ast.ElseBranch.TheOpen.{TypeBound-F, Type_-F}
 use Rattle.hir_env.specs.Layers.{Sorts}
-pub use Rattle.hir_env.specs.Layers.{ParamReading, PathTypeReading}
+pub use Rattle.hir_env.specs.Layers.{ParamReading, PathReading, PathTypeReading}
 
 abbrev pub GenericArgLayer : Sorts → Type 0
 GenericArgLayer S = GenericArg-F S.ElseBranch S.ExprKind S.StmtKind S.PatKind S.GenericArg S.TypeKind S.BlockExpr S.Expr S.Path

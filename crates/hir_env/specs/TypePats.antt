@@ -8,8 +8,8 @@ use Rattle.hir_store.specs.Pointers.{Pointer}
 use Rattle.hir_store.specs.Names.{IsWritten}
 use Rattle.hir_store.specs.declared.name.Name.{Name}
 use Rattle.hir_env.specs.declared.lang.LangItems.{LangItems}
-use Rattle.hir_env.specs.Answered as tree
-use Rattle.hir_env.specs.Answered.{Use, Pat, OptionPat, Pats, Side, TypePat, OptionTypePat, TypePats, Limit}
+use Rattle.hir_env.specs.ResolvedTree as tree
+use Rattle.hir_env.specs.ResolvedTree.{Use, Pat, OptionPat, Pats, Side, TypePat, OptionTypePat, TypePats, Limit}
 
 -- the node of a pattern
 abbrev pub pat_pointer : Pat → Pointer
@@ -65,7 +65,7 @@ module _ (items : LangItems) where
     pub type_pats_of : Pats → TypePats
     type_pats_of tree.no_pats = tree.no_type_pats
     type_pats_of (tree.more_pats p ps) = tree.more_type_pats (type_pat_of p) (type_pats_of ps)
-    type_pats_of (tree.noted_pats called ps) = type_pats_of ps
+    type_pats_of (tree.tracked_pats called ps) = type_pats_of ps
 
   abbrev pub type_pat_or_none : OptionPat → OptionTypePat
   type_pat_or_none tree.no_pat = tree.no_type_pat

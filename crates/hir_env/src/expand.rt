@@ -1,4 +1,4 @@
-//! What a call of a macro is expanded to.
+//! What a macro call is expanded to.
 
 use hir_base::node::{HirFileId, InFile, NodeId};
 use hir_store::ids::MacroDefId;

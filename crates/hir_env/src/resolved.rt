@@ -4,7 +4,7 @@ pub use hir_store::ids::TypeAliasId;
 
 /// What comes before what where the language itself has a type of a name.
 #[derive(Clone, Copy, PartialEq, Eq)]
-pub enum Shadow {
+pub enum BuiltinShadowMode {
     /// The language's own types before modules.
     Other,
     /// The same, and nothing of the modules around a block.

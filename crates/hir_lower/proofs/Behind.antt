@@ -2,25 +2,25 @@
 use Rattle.std.proofs.Common.{◌≡◌, ◌∙◌, refl, sym, ap, subst, ℕ, Bool, true, false, [], ◌∷◌, ◌++◌, Option, Some, None, Result, Ok, Err}
 use Rattle.hir_store.specs.Pointers.{Pointer}
 use Rattle.hir_store.specs.Stored.{Stored, store_of}
-use Rattle.hir_store.specs.Storing as storing
-use Rattle.hir_store.specs.Storing.{Extends, root_at}
+use Rattle.hir_store.specs.StoreSink as store_sink
+use Rattle.hir_store.specs.StoreSink.{Extends, root_at}
 use Rattle.hir_store.specs.declared.diagnostics.MissingBodyItemKind.{MissingBodyItemKind}
-use Rattle.hir_store.specs.declared.fault.StoreFault.{StoreFault}
+use Rattle.hir_store.specs.declared.error.StoreError.{StoreError}
 use Rattle.hir_store.specs.declared.hir.CoroutineKind.{CoroutineKind}
 use Rattle.hir_store.specs.declared.ids.ExprId.{ExprId}
-use Rattle.hir_env.specs.Answered.{Formals, OptionExpr}
-use Rattle.hir_lower_form.specs.Builder.{Builder}
-use Rattle.hir_lower_form.specs.Lowering.{Checked, Lowering, ◌>>=◌, go_on, close_labels, enter_root, outside_root, pure, record_root}
-use Rattle.hir_lower_form.specs.Lowering.{report}
-use Rattle.hir_lower_form.specs.Lower.{lower_part}
-use Rattle.hir_steps.specs.Keeps.{Paired}
-use Rattle.hir_steps.proofs.Frames.{frames, ribs_frames}
-use Rattle.hir_steps.proofs.Steps.{Correct, Holds, Rel, mark}
-use Rattle.hir_one_result.specs.Formals.{lower_body, lower_formals, plain_body}
-use Rattle.hir_one_result.specs.OneResult.{fresh_owing}
+use Rattle.hir_env.specs.ResolvedTree.{Formals, OptionExpr}
+use Rattle.hir_lower_builder.specs.Builder.{Builder}
+use Rattle.hir_lower_builder.specs.Lowering.{Checked, Lowering, ◌>>=◌, go_on, close_labels, enter_root, outside_root, pure, record_root}
+use Rattle.hir_lower_builder.specs.Lowering.{report}
+use Rattle.hir_lower_builder.specs.Lower.{lower_part}
+use Rattle.thm_logic.specs.Keeps.{Paired}
+use Rattle.thm_logic.proofs.Frames.{frames, ribs_frames}
+use Rattle.thm_logic.proofs.Steps.{Correct, Holds, Rel, mark}
+use Rattle.thm_body_result.specs.Formals.{lower_body, lower_formals, plain_body}
+use Rattle.thm_body_result.specs.OneResult.{fresh_owing}
 use Rattle.hir_lower.specs.Formals.{Given, Received}
 use Rattle.hir_lower.specs.Means.{body_fault, kind_unless_skipped, missing_fault, owed_faults, unless_skipped}
-use Rattle.hir_lower.specs.Roots.{behind, body_of, fresh, report_missing}
+use Rattle.hir_lower.specs.Roots.{behind, body_of, new_builder, report_missing}
 
 -- what a step that is correct answers
 pub answered : {A : Type 0} {p : Lowering A} {R : Rel A} → Correct p R → (o o' : Builder) (a : A) → Paired o.stored → p o ≡ (Ok a, o')
@@ -31,11 +31,11 @@ answered {R = R} h o o' a d e final x =
     held.in_final d x
 
 -- inside of a root no label is open
-abbrev pub closed : Builder → Builder
-closed b = record b { scopes = []; in_root = true }
+abbrev pub inside_root : Builder → Builder
+inside_root b = record b { scopes = []; in_root = true }
 
-abbrev pub rooted : Builder → ExprId → Builder
-rooted b i = record b {
+abbrev pub with_root : Builder → ExprId → Builder
+with_root b i = record b {
   stored = record b.stored { roots = b.stored.roots ++ root_at (store_of b.stored) i ∷ [] };
   in_root = false;
 }
@@ -54,32 +54,32 @@ Ending = Checked (Given × ExprId) × Builder
 
 pub record Steps (body : Lowering (Given × ExprId)) (b : Builder) (given : Given) (i : ExprId) (b' : Builder) : Type 0 where
   pub inner : Builder
-  pub lowered : body (closed b) ≡ (Ok (given, i), inner)
-  pub left : rooted inner i ≡ b'
+  pub lowered : body (inside_root b) ≡ (Ok (given, i), inner)
+  pub left : with_root inner i ≡ b'
 
 module _ (body : Lowering (Given × ExprId)) (b : Builder) where
   abbrev ended : Given × ExprId → Lowering (Given × ExprId)
-  ended r = λ t. (Ok r, rooted t r.1)
+  ended r = λ t. (Ok r, with_root t r.1)
 
   pub steps : (b' : Builder) (given : Given) (i : ExprId) → behind body b ≡ (Ok (given, i), b') → Steps body b given i b'
-  unfolding behind close_labels enter_root record_root outside_root storing.record_root
-  steps b' given i h = by (body (closed b)).0 (body (closed b)).1 refl h
+  unfolding behind close_labels enter_root record_root outside_root store_sink.record_root
+  steps b' given i h = by (body (inside_root b)).0 (body (inside_root b)).1 refl h
     where
-      by : (o : Checked (Given × ExprId)) (c : Builder) → body (closed b) ≡ (o, c) → go_on o c ended ≡ (Ok (given, i), b')
+      by : (o : Checked (Given × ExprId)) (c : Builder) → body (inside_root b) ≡ (o, c) → go_on o c ended ≡ (Ok (given, i), b')
           → Steps body b given i b'
       by (Ok r) c is k =
           let same : r ≡ (given, i) = ok_same r (given, i) (ap (λ (q : Ending). q.0) k) in
-          let end : rooted c r.1 ≡ b' = ap (λ (q : Ending). q.1) k in record {
+          let end : with_root c r.1 ≡ b' = ap (λ (q : Ending). q.1) k in record {
             inner = c;
             lowered = is ∙ ap (λ x. (Ok x, c)) same;
-            left = sym (ap (λ x. rooted c x.1) same) ∙ end;
+            left = sym (ap (λ x. with_root c x.1) same) ∙ end;
           }
       by (Err x) c is k = absurd (not_refused x (given, i) (ap (λ (q : Ending). q.0) k))
 
   -- where they are refused so is the body
-  pub refused : (b' : Builder) (x : StoreFault) → behind body b ≡ (Err x, b') → (body (closed b)).0 ≡ Err x
-  unfolding behind close_labels enter_root record_root outside_root storing.record_root
-  refused b' x h = by (body (closed b)).0 (body (closed b)).1 h
+  pub refused : (b' : Builder) (x : StoreError) → behind body b ≡ (Err x, b') → (body (inside_root b)).0 ≡ Err x
+  unfolding behind close_labels enter_root record_root outside_root store_sink.record_root
+  refused b' x h = by (body (inside_root b)).0 (body (inside_root b)).1 h
     where
       by : (o : Checked (Given × ExprId)) (c : Builder) → go_on o c ended ≡ (Err x, b') → o ≡ Err x
       by (Ok r) c k = absurd (not_refused x r (sym (ap (λ (q : Ending). q.0) k)))
@@ -125,15 +125,15 @@ module _ (skipped : Bool) (f : Formals) (e : OptionExpr) (b : Builder) where
 -- the body of an item, from nothing
 
 pub item_is : (kind : Option CoroutineKind) (skipped : Bool) (node : Pointer) (k : Option MissingBodyItemKind) (f : Formals)
-    (e : OptionExpr) (limit : ℕ) → body_of kind skipped node k f e (fresh limit)
+    (e : OptionExpr) (limit : ℕ) → body_of kind skipped node k f e (new_builder limit)
     ≡ behind (lower_body (kind_unless_skipped skipped kind) skipped f (unless_skipped skipped e))
     (fresh_owing limit (owed_faults skipped node k e))
-unfolding body_of report_missing report storing.report
+unfolding body_of report_missing report store_sink.report
 item_is kind true node k f e limit = refl
 item_is kind false node k f e limit = by (body_fault k e)
   where
     by : (fault : Option MissingBodyItemKind)
-        → go_on (report_missing node fault (fresh limit)).0 (report_missing node fault (fresh limit)).1
+        → go_on (report_missing node fault (new_builder limit)).0 (report_missing node fault (new_builder limit)).1
         (λ u. behind (lower_body kind false f e))
         ≡ behind (lower_body kind false f e) (fresh_owing limit (missing_fault node fault))
     by None = refl

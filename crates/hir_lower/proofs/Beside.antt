@@ -11,26 +11,26 @@ use Rattle.hir_syntax.specs.declared.ast.SegmentKind.{SegmentKind}
 use Rattle.hir_syntax.specs.declared.ast.SegmentKind.TheVariants as word
 use Rattle.hir_store.specs.declared.ids.CrateId.{CrateId}
 use Rattle.hir_store.specs.declared.name.Name.TheVariants as name
-use Rattle.hir_env.specs.Spot.{Spot}
-use Rattle.hir_env.specs.Answered as tree
-use Rattle.hir_env.specs.Answered.{OptionType, SegmentArgs, OptionArgs, OptionParens, Path, OptionPath, Segments, Segment}
+use Rattle.hir_env.specs.ResolveCtx.{ResolveCtx}
+use Rattle.hir_env.specs.ResolvedTree as tree
+use Rattle.hir_env.specs.ResolvedTree.{OptionType, SegmentArgs, OptionArgs, OptionParens, Path, OptionPath, Segments, Segment}
 use Rattle.hir_env.specs.TypeLayers.{PathTypeReading}
 use Rattle.hir_env.specs.LocalPaths.{at_local_root, behind_root, is_bare, local_root}
 use Rattle.hir_env.specs.PathNames.{mod_path_of}
 use Rattle.hir_env.specs.Paths.{alias_at, called_path, context_at, crate_root_at, kinded_segment, qualified_segment}
 use Rattle.hir_env.specs.Paths.{with_alias}
-use Rattle.hir_env.specs.Whole.{answered_path, answered_segment, path_part, segments_part, first_part, rest_part, path_type_part}
+use Rattle.hir_env.specs.Whole.{resolved_path, resolved_segment, use_tree_part, segments_part, first_part, rest_part, path_type_part}
 use Rattle.hir_env.specs.Whole.{into, reader}
 use Rattle.hir_env.proofs.PathLevels.{path_is_level, segment_is_level}
-use Rattle.hir_data.specs.Data as datum
-use Rattle.hir_data.specs.Data.{ArgumentsData, BindingsData, OptionArgsData, no_args, PathData}
-use Rattle.hir_data.specs.Rule as rule
-use Rattle.hir_data.specs.Rule.{Named, PathRead, Item, ends, ended, read, refused, names_of, read_of, path_read, data_of, names_data}
-use Rattle.hir_data.specs.Rule.{first_without_self, last_without_self, without_self}
-use Rattle.hir_data.specs.Written.{what, items, segments, path_of, list_data, parens_data, notation, first_list, yielded}
-use Rattle.hir_data.specs.Written.{segment_args_data, arguments_of, bindings_of}
-use Rattle.hir_data.specs.Segments.{name_borne, segment_name, named_among, trait_of, first_trait, all_present}
-use Rattle.hir_data.specs.Segments.{none_missing, Whole}
+use Rattle.spec_data.specs.Data as datum
+use Rattle.spec_data.specs.Data.{ArgumentsData, BindingsData, OptionArgsData, no_args, PathData}
+use Rattle.spec_data.specs.Rule as rule
+use Rattle.spec_data.specs.Rule.{Named, PathRead, Item, ends, ended, read, refused, names_of, read_of, path_read, data_of, names_data}
+use Rattle.spec_data.specs.Rule.{first_without_self, last_without_self, without_self}
+use Rattle.spec_data.specs.Written.{what, items, segments, path_of, list_data, parens_data, notation, first_list, yielded}
+use Rattle.spec_data.specs.Written.{segment_args_data, arguments_of, bindings_of}
+use Rattle.spec_data.specs.Segments.{name_borne, segment_name, named_among, trait_of, first_trait, all_present}
+use Rattle.spec_data.specs.Segments.{none_missing, Whole}
 use Rattle.hir_lower.specs.Beside.{all_behind, args_behind, behind_name, in_projection}
 
 abbrev holds : Bool → Type 0
@@ -95,11 +95,11 @@ borne true a = a ∷ []
 abbrev said : Bool → Segment → List OptionArgsData
 said first s = map args_at (names_of (what first s))
 
-abbrev named_or_root : Spot → AstName → SegmentArgs → Bool → Segment
+abbrev named_or_root : ResolveCtx → AstName → SegmentArgs → Bool → Segment
 named_or_root at n a b =
     if b then tree.dollar_crate_segment (crate_root_at at.answers at.place n.id) else tree.name_segment (name.Text n.t) tt a
 
-dollar_said : (at : Spot) (first : Bool) (n : AstName) (a : SegmentArgs) (b : Bool)
+dollar_said : (at : ResolveCtx) (first : Bool) (n : AstName) (a : SegmentArgs) (b : Bool)
     → said first (named_or_root at n a b)
     ≡ borne (is_some (if b then None else Some (name.Text n.t))) (behind_name (named_or_root at n a b))
 dollar_said at false n a true = refl
@@ -111,7 +111,8 @@ qualified_behind tree.no_type t = refl
 qualified_behind (tree.some_type ty) None = refl
 qualified_behind (tree.some_type ty) (Some t) = refl
 
-said_behind : (at : Spot) (k : Option SegmentKind) (n : Option AstName) (a : SegmentArgs) (ty : OptionType) (t : Option PathTypeReading)
+said_behind : (at : ResolveCtx) (k : Option SegmentKind) (n : Option AstName) (a : SegmentArgs) (ty : OptionType)
+    (t : Option PathTypeReading)
     → let s = kinded_segment at.answers at.place k n a ty t in said false s ≡ borne (is_some (name_borne k n)) (behind_name s)
 said_behind at None n a ty t = refl
 said_behind at (Some word.Name) None a ty t = refl
@@ -126,7 +127,8 @@ qualified_alone : (ty : OptionType) → said true (qualified_segment ty None) �
 qualified_alone tree.no_type = refl
 qualified_alone (tree.some_type ty) = refl
 
-said_first : (at inner : Spot) (k : Option SegmentKind) (n : Option AstName) (a : SegmentArgs) (ty : OptionType) (t : Option AstPathType)
+said_first : (at inner : ResolveCtx) (k : Option SegmentKind) (n : Option AstName) (a : SegmentArgs) (ty : OptionType)
+    (t : Option AstPathType)
     → trait_of k t ≡ None → let s = kinded_segment at.answers at.place k n a ty (path_type_part inner t) in
     said true s ≡ borne (is_some (name_borne k n)) (behind_name s)
 said_first at inner None n a ty t h = refl
@@ -139,14 +141,15 @@ said_first at inner (Some word.SelfTypeKw) n a ty t h = refl
 said_first at inner (Some word.Qualified) n a ty t h = ap (λ x. said true (qualified_segment ty (path_type_part inner x))) h
     ∙ qualified_alone ty
 
-segment_behind : (at : Spot) (s : AstSegment) → said false (answered_segment at s) ≡ borne (is_some (segment_name s)) (args_behind at s)
+segment_behind : (at : ResolveCtx) (s : AstSegment)
+    → said false (resolved_segment at s) ≡ borne (is_some (segment_name s)) (args_behind at s)
 segment_behind at s =
     let o = out-PathSegment s in
     ap (said false) (segment_is_level at s)
     ∙ (said_behind at o.seg o.name _ _ _ ∙ ap (λ x. borne (is_some (segment_name s)) (behind_name x)) (sym (segment_is_level at s)))
 
-segment_first : (at : Spot) (s : AstSegment) → trait_of (out-PathSegment s).seg (out-PathSegment s).trait_ ≡ None
-    → said true (answered_segment at s) ≡ borne (is_some (segment_name s)) (args_behind at s)
+segment_first : (at : ResolveCtx) (s : AstSegment) → trait_of (out-PathSegment s).seg (out-PathSegment s).trait_ ≡ None
+    → said true (resolved_segment at s) ≡ borne (is_some (segment_name s)) (args_behind at s)
 segment_first at s h =
     let o = out-PathSegment s in
     ap (said true) (segment_is_level at s)
@@ -161,30 +164,30 @@ all_args is = map args_at (rule.names is)
 abbrev pub front : Bool → Segment → Item
 front leading s = record { leading = leading; what = what true s }
 
-one_more : (at : Spot) (as' : List OptionArgsData) (s : AstSegment) (ss : List AstSegment) (b : Bool) → as' ≡ map (args_behind at) ss
+one_more : (at : ResolveCtx) (as' : List OptionArgsData) (s : AstSegment) (ss : List AstSegment) (b : Bool) → as' ≡ map (args_behind at) ss
     → borne b (args_behind at s) ++ as' ≡ map (args_behind at) (if b then s ∷ ss else ss)
 one_more at as' s ss false e = e
 one_more at as' s ss true e = ap (λ l. args_behind at s ∷ l) e
 
-one_said : (at : Spot) (i : Item) (is : List Item) (s : AstSegment) (ss : List AstSegment)
+one_said : (at : ResolveCtx) (i : Item) (is : List Item) (s : AstSegment) (ss : List AstSegment)
     → map args_at (names_of i.what) ≡ borne (is_some (segment_name s)) (args_behind at s) → all_args is ≡ map (args_behind at) ss
     → all_args (i ∷ is) ≡ map (args_behind at) (if is_some (segment_name s) then s ∷ ss else ss)
 one_said at i is s ss h e =
     map-append args_at (names_of i.what) (rule.names is)
     ∙ (ap (λ l. l ++ all_args is) h ∙ one_more at (all_args is) s ss (is_some (segment_name s)) e)
 
-pub args_of_rest : (at : Spot) (ss : List (Option AstSegment)) → all_present ss ≡ true
+pub args_of_rest : (at : ResolveCtx) (ss : List (Option AstSegment)) → all_present ss ≡ true
     → all_args (items (segments_part at ss) []) ≡ map (args_behind at) (named_among ss)
 args_of_rest at [] h = refl
 args_of_rest at (None ∷ ss) h = absurd (clash (sym h))
-args_of_rest at (Some s ∷ ss) h = one_said at (record { leading = false; what = what false (answered_segment at s) })
+args_of_rest at (Some s ∷ ss) h = one_said at (record { leading = false; what = what false (resolved_segment at s) })
     (items (segments_part at ss) []) s (named_among ss) (segment_behind at s) (args_of_rest at ss h)
 
-args_of_all : (at : Spot) (leading : Bool) (ss : List (Option AstSegment)) → none_missing ss ≡ true → first_trait ss ≡ None
+args_of_all : (at : ResolveCtx) (leading : Bool) (ss : List (Option AstSegment)) → none_missing ss ≡ true → first_trait ss ≡ None
     → all_args (front leading (first_part at ss) ∷ items (rest_part at ss) []) ≡ map (args_behind at) (named_among ss)
 args_of_all at leading [] h t = absurd (clash (sym h))
 args_of_all at leading (None ∷ ss) h t = absurd (clash (sym h))
-args_of_all at leading (Some s ∷ ss) h t = one_said at (front leading (answered_segment at s))
+args_of_all at leading (Some s ∷ ss) h t = one_said at (front leading (resolved_segment at s))
     (items (segments_part at ss) []) s (named_among ss) (segment_first at s t) (args_of_rest at ss h)
 
 -- a path that is read
@@ -210,13 +213,13 @@ abbrev pub last_without : List OptionArgsData → List OptionArgsData
 last_without as' = reverse (first_without (reverse as'))
 
 -- where none has one, none goes
-first_stands : (as' : List OptionArgsData) → map without_self as' ≡ as' → first_without as' ≡ as'
-first_stands [] h = refl
-first_stands (a ∷ as') h = ap (λ x. x ∷ as') (ap (head_or no_args) h)
+first_corresponds : (as' : List OptionArgsData) → map without_self as' ≡ as' → first_without as' ≡ as'
+first_corresponds [] h = refl
+first_corresponds (a ∷ as') h = ap (λ x. x ∷ as') (ap (head_or no_args) h)
 
-pub last_stands : (as' : List OptionArgsData) → map without_self as' ≡ as' → last_without as' ≡ as'
-last_stands as' h =
-    ap reverse (first_stands (reverse as') (map_reverse without_self as' ∙ ap reverse h)) ∙ reverse-reverse as'
+pub last_corresponds : (as' : List OptionArgsData) → map without_self as' ≡ as' → last_without as' ≡ as'
+last_corresponds as' h =
+    ap reverse (first_corresponds (reverse as') (map_reverse without_self as' ∙ ap reverse h)) ∙ reverse-reverse as'
 
 first_args : (ns : List Named) → map args_at (first_without_self ns) ≡ first_without (map args_at ns)
 first_args [] = refl
@@ -227,12 +230,12 @@ last_args ns = map_reverse args_at (first_without_self (reverse ns))
     ∙ ap reverse (first_args (reverse ns) ∙ ap first_without (map_reverse args_at ns))
 
 -- what is written has none
-behind_stay : (at : Spot) (ss : List AstSegment) → map without_self (map (args_behind at) ss) ≡ map (args_behind at) ss
+behind_stay : (at : ResolveCtx) (ss : List AstSegment) → map without_self (map (args_behind at) ss) ≡ map (args_behind at) ss
 behind_stay at [] = refl
-behind_stay at (s ∷ ss) = λ j. name_stays (answered_segment at s) j ∷ behind_stay at ss j
+behind_stay at (s ∷ ss) = λ j. name_stays (resolved_segment at s) j ∷ behind_stay at ss j
 
-pub written_stays : (at : Spot) (ss : List (Option AstSegment)) → last_without (all_behind at ss) ≡ all_behind at ss
-written_stays at ss = last_stands (all_behind at ss) (behind_stay at (named_among ss))
+pub written_stays : (at : ResolveCtx) (ss : List (Option AstSegment)) → last_without (all_behind at ss) ≡ all_behind at ss
+written_stays at ss = last_corresponds (all_behind at ss) (behind_stay at (named_among ss))
 
 abbrev names_found : Option PathRead → List Named
 names_found None = []
@@ -271,8 +274,8 @@ level_read leading first rest use_ x u e =
     let whole : read (segments (tree.path None leading first rest use_) []) ≡ is = rw u (read_all (front leading first) rest) in
     ap path_read (sym whole) ∙ e
 
-no_use : (at : Spot) (x : Option AstPath) → x ≡ None → path_part at x ≡ tree.no_path
-no_use at x h = ap (path_part at) h
+no_use : (at : ResolveCtx) (x : Option AstPath) → x ≡ None → use_tree_part at x ≡ tree.no_path
+no_use at x h = ap (use_tree_part at) h
 
 rooted_read : (root : Option CrateId) (leading : Bool) (first : Segment) (x : PathRead)
     → path_of (tree.some_path (behind_root root (tree.path None leading first tree.no_segments tree.no_path))) ≡ Some x
@@ -304,45 +307,45 @@ local_read (Some root) leading first x e Q k = by (is_bare (mod_path_of (tree.so
     by true h = rooted_read root leading first x h Q k
     by false h = k x h
 
-called_read : (at : Spot) (in_macro leading : Bool) (ss : List (Option AstSegment)) (u : Option AstPath) (x : PathRead) → u ≡ None
+called_read : (at : ResolveCtx) (in_macro leading : Bool) (ss : List (Option AstSegment)) (u : Option AstPath) (x : PathRead) → u ≡ None
     → none_missing ss ≡ true
     → path_of (tree.some_path (called_path at.answers (reader at.answers (into at)) in_macro leading ss u at.place
-    (tree.path None leading (first_part at ss) (rest_part at ss) (path_part at u)))) ≡ Some x
+    (tree.path None leading (first_part at ss) (rest_part at ss) (use_tree_part at u)))) ≡ Some x
     → (Q : List Named → Type 0)
     → ((y : PathRead) → path_read (front leading (first_part at ss) ∷ items (rest_part at ss) []) ≡ Some y → Q y.names) → Q x.names
 called_read at false leading ss u x h m e Q k =
-    k x (level_read leading (first_part at ss) (rest_part at ss) (path_part at u) x (no_use at u h) e)
+    k x (level_read leading (first_part at ss) (rest_part at ss) (use_tree_part at u) x (no_use at u h) e)
 called_read at true leading [] u x h m e Q k = absurd (clash (sym m))
 called_read at true leading (None ∷ ss) u x h m e Q k = absurd (clash (sym m))
 called_read at true leading (Some s ∷ []) None x h m e Q k =
-    local_read (local_root at.answers (context_at at.answers at.place (out-PathSegment s).id)) leading (answered_segment at s) x e Q k
+    local_read (local_root at.answers (context_at at.answers at.place (out-PathSegment s).id)) leading (resolved_segment at s) x e Q k
 called_read at true leading (Some s ∷ []) (Some u) x h m e Q k = absurd (no_some (sym h))
 called_read at true leading (Some s ∷ t ∷ ss) u x h m e Q k =
     let all = Some s ∷ t ∷ ss in
-    k x (level_read leading (first_part at all) (rest_part at all) (path_part at u) x (no_use at u h) e)
+    k x (level_read leading (first_part at all) (rest_part at all) (use_tree_part at u) x (no_use at u h) e)
 
 -- what is read doesn't look at the alias
 aliased_read : (alias : Option (List Bool)) (y : Path) → path_of (tree.some_path (with_alias alias y)) ≡ path_of (tree.some_path y)
 aliased_read alias (tree.path _ leading first rest use_) = refl
 
 -- the names that are read are those of the path where it stands in no call
-pub answered_read : (at : Spot) (p : AstPath) (x : PathRead) → Whole p → path_of (tree.some_path (answered_path at p)) ≡ Some x
+pub resolved_read : (at : ResolveCtx) (p : AstPath) (x : PathRead) → Whole p → path_of (tree.some_path (resolved_path at p)) ≡ Some x
     → (Q : List Named → Type 0)
     → ((y : PathRead) → path_read (front (out-Path p).leading (first_part at (out-Path p).segs) ∷ items (rest_part at (out-Path p).segs) [])
     ≡ Some y → Q y.names)
     → Q x.names
-answered_read at p x w e =
+resolved_read at p x w e =
     let o = out-Path p in
-    let plain = tree.path None o.leading (first_part at o.segs) (rest_part at o.segs) (path_part at o.use_) in
+    let plain = tree.path None o.leading (first_part at o.segs) (rest_part at o.segs) (use_tree_part at o.use_) in
     let called = called_path at.answers (reader at.answers (into at)) o.in_macro o.leading o.segs o.use_ at.place plain in
     called_read at o.in_macro o.leading o.segs o.use_ x w.0 w.1 (sym (aliased_read (alias_at at.answers at.place called) called)
     ∙ (ap (λ y. path_of (tree.some_path y)) (sym (path_is_level at p)) ∙ e))
 
 -- beside the names that are read is what is written, where the path has no trait
-pub plain_args : (at : Spot) (p : AstPath) (x : PathRead) → Whole p → first_trait (out-Path p).segs ≡ None
-    → path_of (tree.some_path (answered_path at p)) ≡ Some x → map args_at x.names ≡ all_behind at (out-Path p).segs
+pub plain_args : (at : ResolveCtx) (p : AstPath) (x : PathRead) → Whole p → first_trait (out-Path p).segs ≡ None
+    → path_of (tree.some_path (resolved_path at p)) ≡ Some x → map args_at x.names ≡ all_behind at (out-Path p).segs
 plain_args at p x w t e =
     let o = out-Path p in
-    answered_read at p x w e (λ ns. map args_at ns ≡ all_behind at o.segs) (λ y h.
+    resolved_read at p x w e (λ ns. map args_at ns ≡ all_behind at o.segs) (λ y h.
     read_args (front o.leading (first_part at o.segs) ∷ items (rest_part at o.segs) []) y h
     ∙ (ap last_without (args_of_all at o.leading o.segs w.1 t) ∙ written_stays at o.segs))

@@ -9,23 +9,23 @@ use Rattle.hir_syntax.specs.declared.ast.PathSegment.{PathSegment as AstSegment,
 use Rattle.hir_syntax.specs.declared.types.PathType.{PathType as AstPathType, out-PathType}
 use Rattle.hir_syntax.specs.declared.ast.SegmentKind.{SegmentKind}
 use Rattle.hir_syntax.specs.declared.ast.SegmentKind.TheVariants as word
-use Rattle.hir_env.specs.Spot.{Spot}
-use Rattle.hir_env.specs.Answered as tree
-use Rattle.hir_env.specs.Answered.{OptionType, SegmentArgs, Segments}
+use Rattle.hir_env.specs.ResolveCtx.{ResolveCtx}
+use Rattle.hir_env.specs.ResolvedTree as tree
+use Rattle.hir_env.specs.ResolvedTree.{OptionType, SegmentArgs, Segments}
 use Rattle.hir_env.specs.TypeLayers.{PathTypeReading}
 use Rattle.hir_env.specs.Paths.{kinded_segment, qualified_segment}
-use Rattle.hir_env.specs.Whole.{answered_path, answered_path_type, path_part, segments_part, first_part, rest_part, path_type_part}
+use Rattle.hir_env.specs.Whole.{resolved_path, resolved_path_type, path_part, segments_part, first_part, rest_part, path_type_part}
 use Rattle.hir_env.specs.Whole.{type_part}
 use Rattle.hir_env.proofs.PathLevels.{segment_is_level, path_type_is_level}
-use Rattle.hir_data.specs.Data as datum
-use Rattle.hir_data.specs.Data.{OptionArgsData, PathData, TypeData, no_args}
-use Rattle.hir_data.specs.Rule as rule
-use Rattle.hir_data.specs.Rule.{Named, PathRead, Item, What, names_of, path_read, data_of, names_data}
-use Rattle.hir_data.specs.Rule.{first_behind_self, last_behind_self, self_first, without_self}
-use Rattle.hir_data.specs.Written.{items, path_of, type_data, written_path, written_type}
-use Rattle.hir_data.specs.Segments.{trait_of, first_trait, none_missing, Whole, is_qualified, none_qualified, PlainPath, PlainTrait}
+use Rattle.spec_data.specs.Data as datum
+use Rattle.spec_data.specs.Data.{OptionArgsData, PathData, TypeData, no_args}
+use Rattle.spec_data.specs.Rule as rule
+use Rattle.spec_data.specs.Rule.{Named, PathRead, Item, What, names_of, path_read, data_of, names_data}
+use Rattle.spec_data.specs.Rule.{first_behind_self, last_behind_self, self_first, without_self}
+use Rattle.spec_data.specs.Written.{items, path_of, type_data, written_path, written_type}
+use Rattle.spec_data.specs.Segments.{trait_of, first_trait, none_missing, Whole, is_qualified, none_qualified, PlainPath, PlainTrait}
 use Rattle.hir_lower.specs.Beside.{all_behind, args_of_named, beside, beside_names, in_projection, last_behind_type, segments_in}
-use Rattle.hir_lower.proofs.Beside.{all_args, answered_read, args_at, args_of_rest, clash, first_without, front, last_without, map_reverse}
+use Rattle.hir_lower.proofs.Beside.{all_args, resolved_read, args_at, args_of_rest, clash, first_without, front, last_without, map_reverse}
 use Rattle.hir_lower.proofs.Beside.{no_some, plain_args, read_args, written_stays}
 
 -- lists of arguments
@@ -110,10 +110,10 @@ no_trait (Some s ∷ ss) h =
     unqualified k (out-PathSegment s).trait_ (left (not (is_qualified k)) (none_qualified ss) h)
 
 -- it stands in the tree
-trait_first : (at inner : Spot) (k : Option SegmentKind) (n : Option AstName) (a : SegmentArgs) (ty : OptionType)
+trait_first : (at inner : ResolveCtx) (k : Option SegmentKind) (n : Option AstName) (a : SegmentArgs) (ty : OptionType)
     (tr : Option AstPathType) (t : AstPathType)
     → trait_of k tr ≡ Some t
-    → kinded_segment at.answers at.place k n a ty (path_type_part inner tr) ≡ qualified_segment ty (Some (answered_path_type inner t))
+    → kinded_segment at.answers at.place k n a ty (path_type_part inner tr) ≡ qualified_segment ty (Some (resolved_path_type inner t))
 trait_first at inner None n a ty tr t h = absurd (no_some h)
 trait_first at inner (Some word.Name) n a ty tr t h = absurd (no_some h)
 trait_first at inner (Some word.SelfKw) n a ty tr t h = absurd (no_some h)
@@ -123,7 +123,7 @@ trait_first at inner (Some word.SelfTypeKw) n a ty tr t h = absurd (no_some h)
 trait_first at inner (Some word.Qualified) n a ty tr t h = ap (λ x. qualified_segment ty (path_type_part inner x)) h
 
 -- beside the names of the trait
-trait_args : (at : Spot) (q : Option AstPath) (x : PathRead) → PlainPath q → path_of (path_part at q) ≡ Some x
+trait_args : (at : ResolveCtx) (q : Option AstPath) (x : PathRead) → PlainPath q → path_of (path_part at q) ≡ Some x
     → map args_at x.names ≡ all_behind at (segments_in q)
 trait_args at None x w e = absurd (no_some e)
 trait_args at (Some q) x w e = plain_args at q x w.0 (no_trait (out-Path q).segs w.1) e
@@ -152,10 +152,11 @@ qualified_args leading (tree.some_type ty) r rest x as' bs e k h s = by (path_of
         read_args (within (Some y)) x (sym (ap (λ z. path_read (within z)) p) ∙ e)
         ∙ (ap last_without named ∙ trait_changes t as' bs s)
 
-path_type_path : (at : Spot) (t : AstPathType) → (answered_path_type at t).path ≡ path_part at (out-PathType t).path
+path_type_path : (at : ResolveCtx) (t : AstPathType) → (resolved_path_type at t).path ≡ path_part at (out-PathType t).path
 path_type_path at t = ap (λ r. r.path) (path_type_is_level at t)
 
-args_with_trait : (at : Spot) (leading : Bool) (ss : List (Option AstSegment)) (t : AstPathType) (x : PathRead) → none_missing ss ≡ true
+args_with_trait : (at : ResolveCtx) (leading : Bool) (ss : List (Option AstSegment)) (t : AstPathType) (x : PathRead)
+    → none_missing ss ≡ true
     → first_trait ss ≡ Some t → PlainTrait (Some t)
     → path_read (front leading (first_part at ss) ∷ items (rest_part at ss) []) ≡ Some x
     → map args_at x.names ≡ args_of_named at (Some t) ss
@@ -165,20 +166,20 @@ args_with_trait at leading (Some s ∷ ss) t x m h w e =
     let o = out-PathSegment s in
     let inner = in_projection at in
     let first = segment_is_level at s ∙ trait_first at inner o.seg o.name _ _ o.trait_ t h in
-    qualified_args leading (type_part inner o.ty) (answered_path_type inner t) (segments_part at ss) x
+    qualified_args leading (type_part inner o.ty) (resolved_path_type inner t) (segments_part at ss) x
     (all_behind inner (segments_in (out-PathType t).path)) (all_behind at ss)
     (ap (λ y. path_read (front leading y ∷ items (segments_part at ss) [])) (sym first) ∙ e)
     (λ y k. trait_args inner (out-PathType t).path y w (ap path_of (sym (path_type_path inner t)) ∙ k))
     (args_of_rest at ss m) (written_stays at ss)
 
--- the law
+-- the theorem
 
-named_args : (at : Spot) (p : AstPath) (x : PathRead) (tr : Option AstPathType) → first_trait (out-Path p).segs ≡ tr → Whole p
-    → PlainTrait tr → path_of (tree.some_path (answered_path at p)) ≡ Some x
+named_args : (at : ResolveCtx) (p : AstPath) (x : PathRead) (tr : Option AstPathType) → first_trait (out-Path p).segs ≡ tr → Whole p
+    → PlainTrait tr → path_of (tree.some_path (resolved_path at p)) ≡ Some x
     → map args_at x.names ≡ args_of_named at tr (out-Path p).segs
 named_args at p x None h w t e = plain_args at p x w h e
 named_args at p x (Some tr) h w t e =
-    answered_read at p x w e (λ ns. map args_at ns ≡ args_of_named at (Some tr) (out-Path p).segs) (λ y f.
+    resolved_read at p x w e (λ ns. map args_at ns ≡ args_of_named at (Some tr) (out-Path p).segs) (λ y f.
     args_with_trait at (out-Path p).leading (out-Path p).segs tr y w.1 h t f)
 
 listed : (ns : List Named) → beside_names (names_data ns) ≡ map args_at ns
@@ -189,12 +190,12 @@ abbrev beside_data : Option PathData → List OptionArgsData
 beside_data None = []
 beside_data (Some d) = beside d
 
-pub beside_law : (at : Spot) (p : AstPath) (d : PathData) → Whole p → PlainTrait (first_trait (out-Path p).segs)
-    → written_path (tree.some_path (answered_path at p)) ≡ Some d
+pub beside_theorem : (at : ResolveCtx) (p : AstPath) (d : PathData) → Whole p → PlainTrait (first_trait (out-Path p).segs)
+    → written_path (tree.some_path (resolved_path at p)) ≡ Some d
     → beside d ≡ args_of_named at (first_trait (out-Path p).segs) (out-Path p).segs
-beside_law at p d w t e = by (path_of (tree.some_path (answered_path at p))) refl e
+beside_theorem at p d w t e = by (path_of (tree.some_path (resolved_path at p))) refl e
   where
-    by : (y : Option PathRead) → path_of (tree.some_path (answered_path at p)) ≡ y → option_map data_of y ≡ Some d
+    by : (y : Option PathRead) → path_of (tree.some_path (resolved_path at p)) ≡ y → option_map data_of y ≡ Some d
         → beside d ≡ args_of_named at (first_trait (out-Path p).segs) (out-Path p).segs
     by None h k = absurd (no_some k)
     by (Some x) h k = sym (ap beside_data k) ∙ (listed x.names ∙ named_args at p x (first_trait (out-Path p).segs) refl w t h)

@@ -3,49 +3,49 @@ use Rattle.std.proofs.Common.{◌≡◌, ◌∙◌, refl, sym, ap, subst, ℕ, B
 use Rattle.std.specs.Prelude.{IfOk}
 use Rattle.hir_store.specs.Pointers.{Pointer}
 use Rattle.hir_store.specs.Stored.{Store, SourceMap, Stored, store_of, map_of}
-use Rattle.hir_store.specs.Storing as storing
-use Rattle.hir_store.specs.Storing.{Extends, root_at}
+use Rattle.hir_store.specs.StoreSink as store_sink
+use Rattle.hir_store.specs.StoreSink.{Extends, root_at}
 use Rattle.hir_store.specs.declared.diagnostics.MissingBodyItemKind.{MissingBodyItemKind}
-use Rattle.hir_store.specs.declared.fault.StoreFault.TheVariants.{Full}
+use Rattle.hir_store.specs.declared.error.StoreError.TheVariants.{Full}
 use Rattle.hir_store.specs.declared.hir.CoroutineKind.{CoroutineKind}
 use Rattle.hir_store.specs.declared.ids.ExprId.{ExprId}
 use Rattle.hir_store.proofs.Extending.{extends_root}
-use Rattle.hir_env.specs.Answered.{Formals, OptionExpr}
-use Rattle.hir_lower_form.specs.Builder.{Builder, fresh}
-use Rattle.hir_lower_form.specs.Lowering.{Checked, Lowering}
-use Rattle.hir_steps.specs.Keeps.{Keeps, KeepsAll, Paired}
-use Rattle.hir_steps.proofs.Frames.{frames}
-use Rattle.hir_steps.proofs.Keeping.{kept_by}
-use Rattle.hir_steps.proofs.TypeAny.{any}
-use Rattle.hir_same_meaning.specs.Headline.{Lowered}
-use Rattle.hir_same_meaning.proofs.Whole.{headline}
-use Rattle.hir_one_result.specs.Diagnostics.{Faults}
-use Rattle.hir_one_result.specs.Formals.{formals_read, lower_body, plain_body}
-use Rattle.hir_one_result.specs.Laws.{GrownUnless}
-use Rattle.hir_one_result.specs.OneResult.{OneResult, fresh_owing}
-use Rattle.hir_one_result.specs.Room.{BodyTooLarge, body_size}
-use Rattle.hir_one_result.proofs.Fits.{bodies_fit}
-use Rattle.hir_one_result.proofs.Whole.{one_results}
-use Rattle.hir_told.specs.StoredData.{ReadsAs}
-use Rattle.hir_told.proofs.AsExpansions.{bodies_expand}
-use Rattle.hir_told.proofs.AsStoredData.{whole_bodies_store}
-use Rattle.hir_type_result.proofs.InsideBody.{body_inside}
-use Rattle.hir_item_result.specs.Exceeding.{Exceeds, FitsIn}
-use Rattle.hir_item_result.proofs.AsLimits.{fits_first, fresh_within, room_is_there}
-use Rattle.hir_item_result.proofs.Took.{exceeds_first}
+use Rattle.hir_env.specs.ResolvedTree.{Formals, OptionExpr}
+use Rattle.hir_lower_builder.specs.Builder.{Builder, new_builder}
+use Rattle.hir_lower_builder.specs.Lowering.{Checked, Lowering}
+use Rattle.thm_logic.specs.Keeps.{Keeps, KeepsAll, Paired}
+use Rattle.thm_logic.proofs.Frames.{frames}
+use Rattle.thm_logic.proofs.Keeping.{kept_by}
+use Rattle.thm_logic.proofs.TypeAny.{any}
+use Rattle.thm_semantics.specs.Headline.{Lowered}
+use Rattle.thm_semantics.proofs.Whole.{headline}
+use Rattle.thm_body_result.specs.Diagnostics.{Faults}
+use Rattle.thm_body_result.specs.Formals.{formals_read, lower_body, plain_body}
+use Rattle.thm_body_result.specs.Theorems.{GrownUnless}
+use Rattle.thm_body_result.specs.OneResult.{OneResult, fresh_owing}
+use Rattle.thm_body_result.specs.Room.{BodyTooLarge, body_size}
+use Rattle.thm_body_result.proofs.Fits.{bodies_fit}
+use Rattle.thm_body_result.proofs.Whole.{one_results}
+use Rattle.thm_body_result.specs.StoredData.{ReadsAs}
+use Rattle.thm_body_result.proofs.AsExpansions.{bodies_expand}
+use Rattle.thm_body_result.proofs.AsStoredData.{whole_bodies_store}
+use Rattle.thm_type_result.proofs.InsideBody.{body_inside}
+use Rattle.thm_item_result.specs.Exceeding.{Exceeds, FitsIn}
+use Rattle.thm_item_result.proofs.AsLimits.{fits_first, fresh_within, room_is_there}
+use Rattle.thm_item_result.proofs.Took.{exceeds_first}
 use Rattle.hir_lower.specs.Formals.{Given}
 use Rattle.hir_lower.specs.Data.{data_in_body}
 use Rattle.hir_lower.specs.Means.{DoesBody, HasBody, expanded_in_body, kind_unless_skipped, owed_faults, unless_skipped}
 use Rattle.hir_lower.specs.Roots.{GivenFromNothing, RefusedAtEnd, StoresFromNothing, behind, body_of, formals_of, given_of}
 use Rattle.hir_lower.specs.declared.body.Body.{Body}
 use Rattle.hir_lower.proofs.BodyTypes.{body_types_once}
-use Rattle.hir_lower.proofs.Behind.{PlainSteps, Steps, answered, closed, item_is, plain_steps, refused, rooted, steps}
+use Rattle.hir_lower.proofs.Behind.{PlainSteps, Steps, answered, inside_root, item_is, plain_steps, refused, with_root, steps}
 use Rattle.hir_lower.proofs.FunctionNames.{body_once}
 use Rattle.hir_lower.proofs.FunctionParams.{function_does}
 use Rattle.hir_lower.proofs.ParamBodies.{received_any}
 use Rattle.hir_lower.proofs.Params.{given_is_of}
 
--- from nothing, but for the faults that are owed
+-- from nothing, except for the faults that are owed
 
 module _ (skipped : Bool) (f : Formals) (e : OptionExpr) (b b' : Builder) (given : Given) (i : ExprId) (paired : Paired b.stored)
     (none_open : b.scopes ≡ []) (final : Stored) (stays : Extends b'.stored final) where
@@ -72,7 +72,7 @@ module _ (kind : Option CoroutineKind) (skipped : Bool) (f : Formals) (e : Optio
   abbrev lowered : Lowering (Given × ExprId)
   lowered = lower_body kind skipped f e
 
-  paired : Paired (closed start).stored
+  paired : Paired (inside_root start).stored
   paired = record { exprs = refl; labels = refl; pats = refl; types = refl; lifetimes = refl }
 
   module _ (b' : Builder) (given : Given) (i : ExprId) (done : behind lowered start ≡ (Ok (given, i), b')) where
@@ -80,45 +80,45 @@ module _ (kind : Option CoroutineKind) (skipped : Bool) (f : Formals) (e : Optio
     s = steps lowered start b' given i done
 
     result : OneResult (store_of b'.stored) (map_of b'.stored) owed kind skipped f given e
-    unfolding storing.record_root
+    unfolding store_sink.record_root
     result =
         let P : Builder → Type 0 = λ x. OneResult (store_of x.stored) (map_of x.stored) owed kind skipped f given e in
         subst P s.left (one_results limit owed kind skipped f e given i s.inner s.lowered)
 
     body : HasBody kind (store_of b'.stored) (map_of b'.stored) given.0.1 f.receiver (formals_read skipped f.formals) e
     body =
-        let kept : KeepsAll (closed start) s.inner =
-        subst (λ r. Keeps (closed start) r.0 r.1) s.lowered (kept_by (any (body_once kind skipped f e)) (closed start)) in
+        let kept : KeepsAll (inside_root start) s.inner =
+        subst (λ r. Keeps (inside_root start) r.0 r.1) s.lowered (kept_by (any (body_once kind skipped f e)) (inside_root start)) in
         let root = root_at (store_of s.inner.stored) i in
-        let end = (rooted s.inner i).stored in
+        let end = (with_root s.inner i).stored in
         let ext = extends_root s.inner.stored root in
         let P : Builder → Type 0 = λ x.
         HasBody kind (store_of x.stored) (map_of x.stored) given.0.1 f.receiver (formals_read skipped f.formals) e in
         subst P s.left (record {
           root = root;
           only = ap (λ rs. rs ++ root ∷ []) (kept.roots refl);
-          same = does skipped f e (closed start) s.inner given i paired refl end ext kind s.lowered;
-          reached_once = λ depth le. body_inside kind skipped f e (closed start) s.inner given i paired s.lowered end ext depth le;
-          types_reached_once = λ depth le. body_types_once kind skipped f e (closed start) s.inner given i paired
+          same = does skipped f e (inside_root start) s.inner given i paired refl end ext kind s.lowered;
+          reached_once = λ depth le. body_inside kind skipped f e (inside_root start) s.inner given i paired s.lowered end ext depth le;
+          types_reached_once = λ depth le. body_types_once kind skipped f e (inside_root start) s.inner given i paired
               (record { exprs = refl; pats = refl; types = refl }) s.lowered end ext depth le;
         })
 
     all_stored : ReadsAs (data_in_body kind skipped f e) (store_of b'.stored) (map_of b'.stored)
-    unfolding storing.record_root
+    unfolding store_sink.record_root
     all_stored =
         let P : Builder → Type 0 = λ x. ReadsAs (data_in_body kind skipped f e) (store_of x.stored) (map_of x.stored) in
         subst P s.left (whole_bodies_store limit owed kind skipped f e given i s.inner s.lowered)
 
     expanded : b'.stored.expansions ≡ expanded_in_body kind skipped f e
-    unfolding storing.record_root
+    unfolding store_sink.record_root
     expanded =
         let P : Builder → Type 0 = λ x. x.stored.expansions ≡ expanded_in_body kind skipped f e in
-        subst P s.left (bodies_expand kind skipped f e (closed start) s.inner (given, i) paired s.lowered)
+        subst P s.left (bodies_expand kind skipped f e (inside_root start) s.inner (given, i) paired s.lowered)
 
     -- there was room for what came
     fits_body : FitsIn limit (body_size kind skipped f e)
     fits_body =
-        let room = room_is_there.bodies kind skipped f e (closed start) s.inner (given, i) paired (fresh_within limit) s.lowered in
+        let room = room_is_there.bodies kind skipped f e (inside_root start) s.inner (given, i) paired (fresh_within limit) s.lowered in
         let x = room.fits in
         fits_first {n = body_size kind skipped f e} {limit = limit} (record {
           exprs = x.exprs;
@@ -131,11 +131,11 @@ module _ (kind : Option CoroutineKind) (skipped : Bool) (f : Formals) (e : Optio
           params = x.params;
         })
 
-  too_large : (b' : Builder) → behind lowered start ≡ (Err Full, b') → BodyTooLarge (fresh limit) kind skipped f e
+  too_large : (b' : Builder) → behind lowered start ≡ (Err Full, b') → BodyTooLarge (new_builder limit) kind skipped f e
   too_large b' h =
-      let own = lowered (closed start) in
-      subst (λ r. GrownUnless (body_size kind skipped f e) (closed start) r own.1) (refused lowered start b' Full h)
-      (bodies_fit kind skipped f e (closed start) paired)
+      let own = lowered (inside_root start) in
+      subst (λ r. GrownUnless (body_size kind skipped f e) (inside_root start) r own.1) (refused lowered start b' Full h)
+      (bodies_fit kind skipped f e (inside_root start) paired)
 
 -- the body of an item, from nothing
 

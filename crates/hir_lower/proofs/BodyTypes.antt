@@ -1,18 +1,18 @@
 -- Of a body and its parameters each type and each pattern that is reached is reached in one way.
 use Rattle.std.proofs.Common.{◌≡◌, ap, subst, sym, ℕ, ◌≤◌, length, Bool, [], ◌++◌, Option, Ok}
 use Rattle.hir_store.specs.Stored.{Stored}
-use Rattle.hir_store.specs.Storing.{Extends}
+use Rattle.hir_store.specs.StoreSink.{Extends}
 use Rattle.hir_store.specs.declared.hir.CoroutineKind.{CoroutineKind}
 use Rattle.hir_store.specs.declared.ids.ExprId.{ExprId}
-use Rattle.hir_env.specs.Answered.{Formals, OptionExpr}
-use Rattle.hir_lower_form.specs.Builder.{Builder}
-use Rattle.hir_steps.specs.Keeps.{Paired}
-use Rattle.hir_same_meaning.specs.Reached.{Spread}
-use Rattle.hir_one_result.specs.Formals.{Given, lower_body}
-use Rattle.hir_type_result.specs.Named.{of_exprs, of_pats, of_pats_alone, of_types_alone}
-use Rattle.hir_type_result.specs.Pats.{of_types, pats_reached}
-use Rattle.hir_type_result.specs.Reached.{of_each, types_reached}
-use Rattle.hir_type_result.proofs.Named as named
+use Rattle.hir_env.specs.ResolvedTree.{Formals, OptionExpr}
+use Rattle.hir_lower_builder.specs.Builder.{Builder}
+use Rattle.thm_logic.specs.Keeps.{Paired}
+use Rattle.thm_semantics.specs.Reached.{Spread}
+use Rattle.thm_body_result.specs.Formals.{Given, lower_body}
+use Rattle.thm_type_result.specs.Named.{of_exprs, of_pats, of_pats_alone, of_types_alone}
+use Rattle.thm_type_result.specs.Pats.{of_types, pats_reached}
+use Rattle.thm_type_result.specs.Reached.{of_each, types_reached}
+use Rattle.thm_type_result.proofs.Named as named
 
 -- nothing of what names types and patterns is stored
 pub record Bare (s : Stored) : Type 0 where

@@ -6,18 +6,18 @@ use Rattle.hir_store.specs.Pointers.{Pointer}
 use Rattle.hir_store.specs.Stored.{Stored}
 use Rattle.hir_store.specs.declared.ids.ExprId.{ExprId}
 use Rattle.hir_store.specs.declared.ids.TypeRefId.{TypeRefId}
-use Rattle.hir_store.specs.declared.fault.StoreFault.TheVariants.{Memory}
+use Rattle.hir_store.specs.declared.error.StoreError.TheVariants.{Memory}
 use Rattle.hir_store.specs.declared.path.Path.{Path}
 use Rattle.hir_store.specs.declared.type_ref.TypeRef.{TypeRef}
-use Rattle.hir_env.specs.Answered.{OptionExpr, OptionPath}
-use Rattle.hir_lower_form.specs.Builder.{Builder}
-use Rattle.hir_lower_form.specs.Lowering.{Checked}
+use Rattle.hir_env.specs.ResolvedTree.{OptionExpr, OptionPath}
+use Rattle.hir_lower_builder.specs.Builder.{Builder}
+use Rattle.hir_lower_builder.specs.Lowering.{Checked}
 use Rattle.hir_lower.specs.Collected.{Collected, of_constant, of_path, of_type}
 use Rattle.hir_lower.specs.Means.{AddsType, PathRooted, Rooted}
-use Rattle.hir_lower.specs.Roots.{fresh}
+use Rattle.hir_lower.specs.Roots.{new_builder}
 use Rattle.hir_lower.specs.Stays.{Stays}
 
-pub fresh_collected : (b : Builder) (limit : ℕ) → b ≡ fresh limit → ∥ Collected b.stored ∥₁
+pub fresh_collected : (b : Builder) (limit : ℕ) → b ≡ new_builder limit → ∥ Collected b.stored ∥₁
 fresh_collected b limit h = rw h (∣ record { limit = limit; calls = []; left = refl } ∣₁)
 
 pub constant_collected : (old new : Stored) (e : OptionExpr) (r : Checked ExprId) → IfOk r (λ i. Rooted old new i e)

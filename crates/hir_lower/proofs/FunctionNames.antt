@@ -7,7 +7,7 @@ use Rattle.std.proofs.lemmas.Option.{same_Some}
 use Rattle.hir_store.specs.Bindings.{without_problem}
 use Rattle.hir_store.specs.Names.{IsWritten}
 use Rattle.hir_store.specs.Stored.{Stored, store_of}
-use Rattle.hir_store.specs.Storing.{Extends}
+use Rattle.hir_store.specs.StoreSink.{Extends}
 use Rattle.hir_store.specs.declared.hir.CoroutineKind.{CoroutineKind}
 use Rattle.hir_store.specs.declared.hir.CoroutineSource.TheVariants as source
 use Rattle.hir_store.specs.declared.hir.Statement.{Statement}
@@ -16,28 +16,28 @@ use Rattle.hir_store.specs.declared.ids.ExprId.{ExprId}
 use Rattle.hir_store.specs.declared.ids.PatId.{PatId}
 use Rattle.hir_store.specs.declared.pat.Binding.{Binding}
 use Rattle.hir_store.proofs.Extending.{extends_refl, extends_trans}
-use Rattle.hir_env.specs.Answered as tree
-use Rattle.hir_env.specs.Answered.{Formal, Formals, OptionExpr, SelfFormal}
-use Rattle.hir_lower_form.specs.Forms.{push_some}
-use Rattle.hir_lower_form.specs.Pats.{new_binding}
-use Rattle.hir_lower_form.specs.Preludes.{let_self}
-use Rattle.hir_lower_form.specs.declared.preludes.Prelude.{Prelude}
-use Rattle.hir_steps.specs.Keeps.{IsOneOf, name_alone}
-use Rattle.hir_steps.proofs.Always.{correct_always}
-use Rattle.hir_steps.proofs.Apart.{Apart, ApartIn, Once, Times, apart_of, apart_same, apart_trans, binding_apart, more_of}
-use Rattle.hir_steps.proofs.Apart.{pure_apart, report_apart, sum, then_apart, times}
-use Rattle.hir_steps.proofs.AsApart.{apart_graded}
-use Rattle.hir_steps.proofs.GradedPats.{missing_pat_graded}
-use Rattle.hir_steps.proofs.ApartPreludes.{NewNames, bound_twice, coroutine_names, coroutine_times, handed_hand_out, let_params_add}
-use Rattle.hir_steps.proofs.ApartPreludes.{names_of, rebound_apart, times_handed}
-use Rattle.hir_steps.proofs.ApartTree.{part_apart, top_apart}
-use Rattle.hir_steps.proofs.Frames.{Frame}
-use Rattle.hir_steps.proofs.Owning.{correct_owning}
-use Rattle.hir_steps.proofs.Preludes.{Rebound, binding_at, correct_let_self, correct_made_coroutine}
-use Rattle.hir_steps.proofs.Steps.{Correct, Mark, Rel, correct_as, correct_bind, correct_both, correct_pure}
-use Rattle.hir_one_result.specs.Formals.{Given, InFunction, coroutine_body, each_formal, in_function, lower_body, lower_formal}
-use Rattle.hir_one_result.specs.Formals.{lower_formals, lower_self, plain_body}
-use Rattle.hir_one_result.proofs.Formals.{HasSelf, self_known}
+use Rattle.hir_env.specs.ResolvedTree as tree
+use Rattle.hir_env.specs.ResolvedTree.{Formal, Formals, OptionExpr, SelfFormal}
+use Rattle.hir_lower_builder.specs.Forms.{push_some}
+use Rattle.hir_lower_builder.specs.Pats.{new_binding}
+use Rattle.hir_lower_builder.specs.Preludes.{let_self}
+use Rattle.hir_lower_builder.specs.declared.preludes.Prelude.{Prelude}
+use Rattle.thm_logic.specs.Keeps.{IsOneOf, name_alone}
+use Rattle.thm_logic.proofs.Always.{correct_always}
+use Rattle.thm_logic.proofs.Apart.{Apart, ApartIn, Once, Times, apart_of, apart_same, apart_trans, binding_apart, more_of}
+use Rattle.thm_logic.proofs.Apart.{pure_apart, report_apart, sum, then_apart, times}
+use Rattle.thm_logic.proofs.AsApart.{apart_graded}
+use Rattle.thm_logic.proofs.GradedPats.{missing_pat_graded}
+use Rattle.thm_logic.proofs.ApartPreludes.{NewNames, bound_twice, coroutine_names, coroutine_times, handed_hand_out, let_params_add}
+use Rattle.thm_logic.proofs.ApartPreludes.{names_of, rebound_apart, times_handed}
+use Rattle.thm_logic.proofs.ApartTree.{part_apart, top_apart}
+use Rattle.thm_logic.proofs.Frames.{Frame}
+use Rattle.thm_logic.proofs.Owning.{correct_owning}
+use Rattle.thm_logic.proofs.Preludes.{Rebound, binding_at, correct_let_self, correct_made_coroutine}
+use Rattle.thm_logic.proofs.Steps.{Correct, Mark, Rel, correct_as, correct_bind, correct_both, correct_pure}
+use Rattle.thm_body_result.specs.Formals.{Given, InFunction, coroutine_body, each_formal, in_function, lower_body, lower_formal}
+use Rattle.thm_body_result.specs.Formals.{lower_formals, lower_self, plain_body}
+use Rattle.thm_body_result.proofs.Formals.{HasSelf, self_known}
 
 -- parameters
 

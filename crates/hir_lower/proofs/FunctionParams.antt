@@ -3,39 +3,39 @@
 use Rattle.std.proofs.Common.{arith, ◌≡◌, ◌∙◌, refl, sym, ap, subst, ℕ, ◌+◌, ◌≤◌, Bool, List, [], ◌++◌, Option, Some, None}
 use Rattle.hir_store.specs.Bindings.{binding_id}
 use Rattle.hir_store.specs.Stored.{Stored, store_of, map_of}
-use Rattle.hir_store.specs.Storing.{Extends}
+use Rattle.hir_store.specs.StoreSink.{Extends}
 use Rattle.hir_store.specs.declared.hir.CoroutineKind.{CoroutineKind}
 use Rattle.hir_store.specs.declared.hir.CoroutineSource.TheVariants as source
 use Rattle.hir_store.specs.declared.ids.BindingId.{BindingId}
 use Rattle.hir_store.specs.declared.ids.ExprId.{ExprId}
 use Rattle.hir_store.proofs.Extending.{extends_owner, extends_trans}
-use Rattle.hir_env.specs.Answered as tree
-use Rattle.hir_env.specs.Answered.{Formal, Formals, OptionExpr, SelfFormal}
-use Rattle.hir_data.specs.Data.{PatData}
-use Rattle.hir_data.specs.Preludes.{formal_patterns}
-use Rattle.hir_lower_form.specs.Lower.{lower_part}
-use Rattle.hir_lower_form.specs.Pats.{new_binding}
-use Rattle.hir_lower_form.specs.Preludes.{let_self}
-use Rattle.hir_lower_form.specs.declared.preludes.Prelude.{Prelude}
-use Rattle.hir_meaning.specs.Inner.{all_of}
-use Rattle.hir_meaning.specs.Same.{SameCoroutine}
-use Rattle.hir_read_back.proofs.Params.{pats_in}
-use Rattle.hir_read_back.proofs.Preludes.{HandIn, ReadAs, all_handed, formals_now, lets_now}
-use Rattle.hir_steps.proofs.Always.{correct_always}
-use Rattle.hir_steps.proofs.ApartTree.{part_apart}
-use Rattle.hir_steps.proofs.Frames.{Frame}
-use Rattle.hir_steps.proofs.Owning.{correct_owning}
-use Rattle.hir_steps.proofs.PatSteps.{correct_alloc_binding}
-use Rattle.hir_steps.proofs.Preludes.{correct_let_self, correct_made_coroutine}
-use Rattle.hir_steps.proofs.Steps.{Correct, Mark, Rel, correct_as, correct_bind, correct_both, correct_pure}
-use Rattle.hir_steps.proofs.Steps.{correct_report}
-use Rattle.hir_same_meaning.specs.Functions as meant
-use Rattle.hir_same_meaning.proofs.Functions.{ParamsAre, SelfIs, function_same}
-use Rattle.hir_same_meaning.proofs.Holding.{SameIn, inners_in, same_ids}
-use Rattle.hir_one_result.specs.Formals as forms
-use Rattle.hir_one_result.specs.Formals.{Given, InFunction, coroutine_body, each_formal, formals_read, lower_self}
-use Rattle.hir_one_result.specs.Room.{formals_data}
-use Rattle.hir_one_result.proofs.Formals.{each_now}
+use Rattle.hir_env.specs.ResolvedTree as tree
+use Rattle.hir_env.specs.ResolvedTree.{Formal, Formals, OptionExpr, SelfFormal}
+use Rattle.spec_data.specs.Data.{PatData}
+use Rattle.spec_data.specs.Preludes.{formal_patterns}
+use Rattle.hir_lower_builder.specs.Lower.{lower_part}
+use Rattle.hir_lower_builder.specs.Pats.{new_binding}
+use Rattle.hir_lower_builder.specs.Preludes.{let_self}
+use Rattle.hir_lower_builder.specs.declared.preludes.Prelude.{Prelude}
+use Rattle.spec_semantics.specs.Inner.{all_of}
+use Rattle.spec_semantics.specs.Same.{SameCoroutine}
+use Rattle.thm_round_trip.proofs.Params.{pats_in}
+use Rattle.thm_round_trip.proofs.Preludes.{HandIn, ReadAs, all_handed, formals_now, lets_now}
+use Rattle.thm_logic.proofs.Always.{correct_always}
+use Rattle.thm_logic.proofs.ApartTree.{part_apart}
+use Rattle.thm_logic.proofs.Frames.{Frame}
+use Rattle.thm_logic.proofs.Owning.{correct_owning}
+use Rattle.thm_logic.proofs.PatSteps.{correct_alloc_binding}
+use Rattle.thm_logic.proofs.Preludes.{correct_let_self, correct_made_coroutine}
+use Rattle.thm_logic.proofs.Steps.{Correct, Mark, Rel, correct_as, correct_bind, correct_both, correct_pure}
+use Rattle.thm_logic.proofs.Steps.{correct_report}
+use Rattle.thm_semantics.specs.Functions as meant
+use Rattle.thm_semantics.proofs.Functions.{ParamsAre, SelfIs, function_same}
+use Rattle.thm_semantics.proofs.Holding.{SameIn, inners_in, same_ids}
+use Rattle.thm_body_result.specs.Formals as forms
+use Rattle.thm_body_result.specs.Formals.{Given, InFunction, coroutine_body, each_formal, formals_read, lower_self}
+use Rattle.thm_body_result.specs.Room.{formals_data}
+use Rattle.thm_body_result.proofs.Formals.{each_now}
 use Rattle.hir_lower.proofs.ParamBodies.{each_hold, read_bodies, self_any}
 
 -- it does what is written

@@ -5,10 +5,10 @@ use Rattle.std.proofs.lemmas.Option.{slice_get_cases, slice_get_past}
 use Rattle.std.specs.Prelude.{is_some}
 use Rattle.hir_store.specs.Arenas.{with_made}
 use Rattle.hir_store.specs.Past.{Past, Within, past_bound, past_constant, past_each, past_lifetime_id, past_present, past_type_id}
-use Rattle.hir_store.specs.Pointers.{Pointer, flattened}
+use Rattle.hir_store.specs.Pointers.{Pointer, flat_option}
 use Rattle.hir_store.specs.Range.{HasBounds, HasTypeOption, HasTypes}
 use Rattle.hir_store.specs.Stored.{SourceMap, Store, Stored, map_of, store_of}
-use Rattle.hir_store.specs.Storing.{Extends}
+use Rattle.hir_store.specs.StoreSink.{Extends}
 use Rattle.hir_store.specs.declared.generics.LifetimeParamData.{LifetimeParamData}
 use Rattle.hir_store.specs.declared.generics.TypeOrConstParamData.{TypeOrConstParamData}
 use Rattle.hir_store.specs.declared.generics.TypeOrConstParamData.TheVariants as param
@@ -20,25 +20,25 @@ use Rattle.hir_store.specs.declared.ids.TypeRefId.{TypeRefId}
 use Rattle.hir_store.specs.declared.type_ref.ConstRef.{ConstRef}
 use Rattle.hir_store.specs.declared.type_ref.TraitRef.{TraitRef}
 use Rattle.hir_store.specs.declared.type_ref.TypeBound.{TypeBound}
-use Rattle.hir_store.proofs.Arenas.{continues_made, continues_refl, prefix_refl}
-use Rattle.hir_store.proofs.BindingLemmas.{bindings_refl}
+use Rattle.hir_store.proofs.Arenas.{continues_made}
 use Rattle.hir_store.proofs.Extending.{extends_refl, extends_trans}
 use Rattle.hir_env.specs.NodeMap.{Site}
-use Rattle.hir_env.specs.Spot.{site_of}
-use Rattle.hir_data.specs.Data.{BoundData, LifetimeData, TypeData}
-use Rattle.hir_data.specs.Reading.{bound_layer, stored_constant, stored_lifetime, stored_option_type, stored_type}
-use Rattle.hir_lower_form.specs.Builder.{Builder, fresh}
-use Rattle.hir_lower_form.specs.declared.generics.GenericLists.{GenericLists}
+use Rattle.hir_env.specs.ResolveCtx.{site_of}
+use Rattle.thm_logic.proofs.Extended.{exprs_go_on}
+use Rattle.spec_data.specs.Data.{BoundData, LifetimeData, TypeData}
+use Rattle.spec_data.specs.Reading.{bound_layer, stored_constant, stored_lifetime, stored_option_type, stored_type}
+use Rattle.hir_lower_builder.specs.Builder.{Builder, new_builder}
+use Rattle.hir_lower_builder.specs.declared.generics.GenericLists.{GenericLists}
 use Rattle.hir_lower_item.specs.Has.{HasAlias, HasImpl, HasTraitOption}
 use Rattle.hir_lower_item.specs.Kinds.{finished}
-use Rattle.hir_item_noted.specs.Asked.{BoundIs, IsAsked, Stand, StandsFor, TypeIs}
-use Rattle.hir_item_noted.specs.AskedFold.{Asked, Asking, Asks, of_lifetime, of_type, parameter, written}
-use Rattle.hir_item_noted.specs.Fold.{ItemNoting, Param, const_param, impl_param, type_param}
-use Rattle.hir_item_noted.specs.Laws.{Made}
-use Rattle.hir_item_noted.specs.Noted.{ParamIs, ParamsFrom}
-use Rattle.hir_item_result.specs.Numbers.{past_alias, past_function, past_impl, past_param, past_params, past_predicate}
-use Rattle.hir_item_result.proofs.Later.{Lasts, bound_within, lasts_if, lifetime_within, option_type_within, stored_within, type_is_stored}
-use Rattle.hir_item_result.proofs.Later.{whole, within_join, within_nothing, within_type}
+use Rattle.thm_item_generics.specs.Asked.{BoundIs, IsAsked, Stand, CorrespondsTo, TypeIs}
+use Rattle.thm_item_generics.specs.AskedFold.{Asked, Asking, Asks, of_lifetime, of_type, parameter, written}
+use Rattle.thm_item_generics.specs.Fold.{ItemTracking, Param, const_param, impl_param, type_param}
+use Rattle.thm_item_generics.specs.Theorems.{Made}
+use Rattle.thm_item_generics.specs.Tracked.{ParamIs, ParamsFrom}
+use Rattle.thm_item_result.specs.Numbers.{past_alias, past_function, past_impl, past_param, past_params, past_predicate}
+use Rattle.thm_item_result.proofs.Later.{Lasts, bound_within, lasts_if, lifetime_within, option_type_within, stored_within, type_is_stored}
+use Rattle.thm_item_result.proofs.Later.{whole, within_join, within_nothing, within_type}
 
 -- what the steps answer
 
@@ -73,7 +73,7 @@ function_exists s a h = within_join (store_of s) _ (past_present past_type_id a.
 pub answer_exists : {A : Type 0} (Has : Stored → A → Type 0) (past : A → Past)
     → ((s : Stored) (a : A) → Has s a → Within (store_of s) (past a))
     → (s : Stored) (a : A) → Has s a → {stored : Stored} {store : Store} → stored ≡ s → store ≡ store_of stored → Within store (past a)
-answer_exists Has past law s a h e f = subst (λ x. Within x (past a)) (sym (f ∙ ap store_of e)) (law s a h)
+answer_exists Has past theorem s a h e f = subst (λ x. Within x (past a)) (sym (f ∙ ap store_of e)) (theorem s a h)
 
 -- a constant that came from the same node whatever is stored further
 
@@ -85,21 +85,7 @@ abbrev with_missing : Pointer → Stored → Stored
 with_missing at s = record s { exprs = with_made s.exprs hir.Missing (Some at) }
 
 missing_extends : (at : Pointer) (s : Stored) → Extends s (with_missing at s)
-missing_extends at s = record {
-  exprs = continues_made s.exprs hir.Missing (Some at);
-  labels = continues_refl s.labels;
-  pats = continues_refl s.pats;
-  bindings = bindings_refl s.bindings;
-  types = continues_refl s.types;
-  lifetimes = continues_refl s.lifetimes;
-  roots = prefix_refl s.roots;
-  target_nodes = prefix_refl _;
-  field_map_back = prefix_refl s.field_map_back;
-  pat_field_map_back = prefix_refl s.pat_field_map_back;
-  block_scopes = prefix_refl s.block_scopes;
-  expansions = prefix_refl s.expansions;
-  diagnostics = prefix_refl s.diagnostics;
-}
+missing_extends at s = exprs_go_on s _ (continues_made s.exprs hir.Missing (Some at))
 
 some_node : Pointer
 some_node = record {
@@ -113,7 +99,7 @@ push_new (y ∷ xs) x = push_new xs x
 
 constant_past : (k : ℕ) (s : Stored) (c : ConstRef) → c.expr.0 ≡ length s.exprs.sources + k → Lasts (read_constant c) s → ⊥
 constant_past zero s c e h =
-    let came : Option (Option Pointer) → Bool = λ o. is_some (option_map site_of (flattened o)) in
+    let came : Option (Option Pointer) → Bool = λ o. is_some (option_map site_of (flat_option o)) in
     let here : slice_get s.exprs.sources c.expr.0 ≡ None = slice_get_past s.exprs.sources c.expr.0 (omega (arith, e)) in
     let at_end : c.expr.0 ≡ length s.exprs.sources = omega (arith, e) in
     let more = s.exprs.sources ++ Some some_node ∷ [] in
@@ -194,7 +180,7 @@ module _ (s : Stored) (same : length s.exprs.sources ≡ length s.exprs.entries)
       → Within (store_of s) (past_lifetime_id l)
   lifetime_exists l d h = lifetime_within s l (lasts_if (λ z. stored_lifetime (store_of z) (map_of z) l) s d h (h s here))
 
-  predicate_exists : (p : WherePredicate) (a : Asking) → Always (λ st m. StandsFor st m p a) → Within (store_of s) (past_predicate p)
+  predicate_exists : (p : WherePredicate) (a : Asking) → Always (λ st m. CorrespondsTo st m p a) → Within (store_of s) (past_predicate p)
   predicate_exists (predicate.TypeBound binder t b) (of_type names x d bs) h = within_join (store_of s) (past_type_id t) (past_bound b)
       (asked_exists t x (λ later e. (h later e).1)) (bound_exists b d (λ later e. (h later e).2))
   predicate_exists (predicate.TypeBound binder t b) (of_lifetime d e) h = absurd (h s here)
@@ -211,9 +197,10 @@ module _ (s : Stored) (same : length s.exprs.sources ≡ length s.exprs.entries)
 
 -- the parameters that an item is answered with
 
-pub params_exist : (n : ItemNoting) (lifetimes : List LifetimeParamData) (x : Asks) (limit : ℕ) (c : Builder) (g : GenericLists)
-    → length c.stored.exprs.sources ≡ length c.stored.exprs.entries → Made n lifetimes c.stored (finished g) → IsAsked x (fresh limit) c
-    → g.where_predicates ≡ c.notes.generics.where_predicates → Within (store_of c.stored) (past_params (finished g))
+pub params_exist : (n : ItemTracking) (lifetimes : List LifetimeParamData) (x : Asks) (limit : ℕ) (c : Builder) (g : GenericLists)
+    → length c.stored.exprs.sources ≡ length c.stored.exprs.entries → Made n lifetimes c.stored (finished g)
+    → IsAsked x (new_builder limit) c
+    → g.where_predicates ≡ c.tracks.generics.where_predicates → Within (store_of c.stored) (past_params (finished g))
 params_exist n lifetimes x limit c g same m a is = within_join (store_of c.stored) (past_each past_param g.type_or_consts)
     (past_each past_predicate g.where_predicates) (all_exist c.stored same 0 g.type_or_consts n.params m.params)
     (all_asked_exist c.stored same g.where_predicates (x 0).asks

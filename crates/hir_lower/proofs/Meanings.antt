@@ -4,66 +4,66 @@ use Rattle.std.specs.Prelude.{IfOk, IsErrOf}
 use Rattle.std.proofs.Math.Logic.{∥∥₁_map}
 use Rattle.hir_store.specs.Bindings.{binding_id}
 use Rattle.hir_store.specs.Stored.{SourceMap, Store, Stored, store_of, map_of}
-use Rattle.hir_store.specs.Storing as storing
-use Rattle.hir_store.specs.Storing.{Extends, root_at}
+use Rattle.hir_store.specs.StoreSink as store_sink
+use Rattle.hir_store.specs.StoreSink.{Extends, root_at}
 use Rattle.hir_store.specs.Range.{HasExpr}
 use Rattle.hir_store.specs.declared.ids.BindingId.{BindingId}
 use Rattle.hir_store.specs.declared.ids.ExprId.{ExprId}
-use Rattle.hir_store.specs.declared.fault.StoreFault.{StoreFault}
-use Rattle.hir_store.specs.declared.fault.StoreFault.TheVariants.{Memory, Full}
+use Rattle.hir_store.specs.declared.error.StoreError.{StoreError}
+use Rattle.hir_store.specs.declared.error.StoreError.TheVariants.{Memory, Full}
 use Rattle.hir_store.proofs.Arenas.{prefix_refl}
 use Rattle.hir_store.proofs.Extending.{extends_owner, extends_refl, extends_root, extends_trans}
 use Rattle.hir_store.proofs.OwnerLemmas.{length_owned}
-use Rattle.hir_env.specs.Answered.{OptionExpr}
-use Rattle.hir_lower_form.specs.Builder.{Builder}
-use Rattle.hir_lower_form.specs.Lowering.{Checked, Lowering, Lowers, go_on, bindings_end, close_labels, enter_root, outside_root, own}
-use Rattle.hir_lower_form.specs.Lowering.{record_root}
-use Rattle.hir_lower_form.specs.Lower.{lower_part}
-use Rattle.hir_scope.specs.Ribs.{map_ribs}
-use Rattle.hir_steps.specs.Keeps.{KeepsAll, Keeps, MadeApart, Mapped, Paired}
-use Rattle.hir_steps.proofs.ApartTree.{part_apart}
-use Rattle.hir_steps.proofs.Keeping.{apart_by, keeping}
-use Rattle.hir_steps.proofs.Owning.{with_owned}
-use Rattle.hir_same_meaning.specs.Headline.{Lowered}
-use Rattle.hir_same_meaning.proofs.Whole.{headline}
-use Rattle.hir_steps.proofs.Formals.{apart_in, apart_now}
-use Rattle.hir_one_result.specs.Definitions.{DefinitionsAre}
-use Rattle.hir_one_result.specs.Laws.{Defined, FitsUnless, Grown, MayBeOwned, Settled}
-use Rattle.hir_one_result.specs.Room.{TooLarge, size_part}
-use Rattle.hir_one_result.specs.Size.{owned}
-use Rattle.hir_one_result.specs.Diagnostics.{forget}
-use Rattle.hir_one_result.specs.Leads.{OwnedBy}
-use Rattle.hir_one_result.specs.Stands.{StandsPart}
-use Rattle.hir_one_result.proofs.Last.{EndsWith}
-use Rattle.hir_one_result.proofs.Owners.{last_owns}
-use Rattle.hir_one_result.proofs.AllStand.{all_stand, part_shown}
-use Rattle.hir_one_result.proofs.Leading.{Shown}
-use Rattle.hir_one_result.proofs.OwnedWays.{shown_owned}
-use Rattle.hir_one_result.proofs.TreeFaults.{diagnostics_are}
-use Rattle.hir_one_result.proofs.TreeBlocks.{blocks_are}
-use Rattle.hir_one_result.proofs.Fits.{all_fit}
-use Rattle.hir_one_result.proofs.Took.{Room, Took}
-use Rattle.hir_one_result.proofs.TreeRooms.{part_last, part_takes}
-use Rattle.hir_told.specs.LeadsOn.{Went}
-use Rattle.hir_told.proofs.AsExpansions.{exprs_expand}
-use Rattle.hir_told.proofs.AsStoredData.{exprs_store}
-use Rattle.hir_type_result.proofs.Inside.{expr_inside}
-use Rattle.hir_type_result.proofs.Named.{expr_bindings_came, expr_pats_once, expr_types_once}
-use Rattle.hir_item_result.specs.Exceeding.{FitsBehind, HadRoom, InLimits}
-use Rattle.hir_item_result.proofs.AsLimits.{room_is_there}
+use Rattle.hir_env.specs.ResolvedTree.{OptionExpr}
+use Rattle.hir_lower_builder.specs.Builder.{Builder}
+use Rattle.hir_lower_builder.specs.Lowering.{Checked, Lowering, Lowers, go_on, bindings_end, close_labels, enter_root, outside_root, own}
+use Rattle.hir_lower_builder.specs.Lowering.{record_root}
+use Rattle.hir_lower_builder.specs.Lower.{lower_part}
+use Rattle.hir_lower_scope.specs.ScopeRibs.{map_ribs}
+use Rattle.thm_logic.specs.Keeps.{KeepsAll, Keeps, MadeApart, Mapped, Paired}
+use Rattle.thm_logic.proofs.ApartTree.{part_apart}
+use Rattle.thm_logic.proofs.Keeping.{apart_by, keeping}
+use Rattle.thm_logic.proofs.Owning.{with_owned}
+use Rattle.thm_semantics.specs.Headline.{Lowered}
+use Rattle.thm_semantics.proofs.Whole.{headline}
+use Rattle.thm_logic.proofs.Formals.{apart_in, apart_now}
+use Rattle.thm_body_result.specs.Definitions.{DefinitionsAre}
+use Rattle.thm_body_result.specs.Theorems.{Defined, FitsUnless, Grown, MayBeOwned, Settled}
+use Rattle.thm_body_result.specs.Room.{TooLarge, size_part}
+use Rattle.thm_body_result.specs.Size.{owned}
+use Rattle.thm_body_result.specs.Diagnostics.{forget}
+use Rattle.thm_body_result.specs.Leads.{OwnedBy}
+use Rattle.thm_body_result.specs.Corresponds.{CorrespondsPart}
+use Rattle.thm_body_result.proofs.Last.{EndsWith}
+use Rattle.thm_body_result.proofs.Owners.{last_owns}
+use Rattle.thm_body_result.proofs.AllStand.{all_stand, part_shown}
+use Rattle.thm_body_result.proofs.Leading.{Shown}
+use Rattle.thm_body_result.proofs.OwnedMappings.{shown_owned}
+use Rattle.thm_body_result.proofs.TreeFaults.{diagnostics_are}
+use Rattle.thm_body_result.proofs.TreeBlocks.{blocks_are}
+use Rattle.thm_body_result.proofs.Fits.{all_fit}
+use Rattle.thm_body_result.proofs.Took.{Room, Took}
+use Rattle.thm_body_result.proofs.TreeRooms.{part_last, part_takes}
+use Rattle.thm_body_result.specs.LeadsOn.{Went}
+use Rattle.thm_body_result.proofs.AsExpansions.{exprs_expand}
+use Rattle.thm_body_result.proofs.AsStoredData.{exprs_store}
+use Rattle.thm_type_result.proofs.Inside.{expr_inside}
+use Rattle.thm_type_result.proofs.Named.{expr_bindings_came, expr_pats_once, expr_types_once}
+use Rattle.thm_item_result.specs.Exceeding.{FitsBehind, HadRoom, InLimits}
+use Rattle.thm_item_result.proofs.AsLimits.{room_is_there}
 use Rattle.hir_lower.specs.Calls.{Outside}
 use Rattle.hir_lower.specs.Roots.{root_of}
 use Rattle.hir_lower.specs.Stays.{Stays}
-use Rattle.hir_lower.proofs.Behind.{closed, rooted}
-use Rattle.hir_told.proofs.AsWays.{part_leads}
-use Rattle.hir_told.proofs.Onward.{went}
-use Rattle.hir_told.proofs.OwnedWays.{went_owned}
+use Rattle.hir_lower.proofs.Behind.{inside_root, with_root}
+use Rattle.thm_body_result.proofs.AsMappings.{part_leads}
+use Rattle.thm_body_result.proofs.Onward.{step_went}
+use Rattle.thm_body_result.proofs.EmittedOwnedMappings.{went_owned}
 use Rattle.hir_lower.proofs.StaysOn.{stays_on}
 use Rattle.hir_lower.specs.Means.{Lives, Rooted}
 
 -- owned from this binding on by the root, which is recorded
 abbrev owned_root : BindingId → Builder → ExprId → Builder
-owned_root start b i = rooted (record b { stored = with_owned start i b.stored }) i
+owned_root start b i = with_root (record b { stored = with_owned start i b.stored }) i
 
 abbrev recorded : BindingId → ExprId → Lowering ExprId
 recorded start i = λ t. (Ok i, owned_root start t i)
@@ -73,8 +73,8 @@ abbrev first : Builder → BindingId
 first b = binding_id (length b.stored.bindings.entries)
 
 root_steps : (e : OptionExpr) (b : Builder)
-    → root_of e b ≡ go_on (lower_part e (closed b)).0 (lower_part e (closed b)).1 (recorded (first b))
-unfolding root_of close_labels enter_root bindings_end own storing.own record_root outside_root storing.record_root
+    → root_of e b ≡ go_on (lower_part e (inside_root b)).0 (lower_part e (inside_root b)).1 (recorded (first b))
+unfolding root_of close_labels enter_root bindings_end own store_sink.own record_root outside_root store_sink.record_root
 root_steps e b = refl
 
 -- nothing is lost
@@ -84,7 +84,7 @@ recorded_extends start c i =
     let owned = with_owned start i c.stored in
     extends_trans (extends_owner c.stored start i) (extends_root owned (root_at (store_of owned) i))
 
-recorded_stays : (b : Builder) (o : Checked ExprId) (c : Builder) → Keeps (closed b) o c
+recorded_stays : (b : Builder) (o : Checked ExprId) (c : Builder) → Keeps (inside_root b) o c
     → Extends b.stored (go_on o c (recorded (first b))).1.stored
 recorded_stays b (Ok i) c h = extends_trans h.stays (recorded_extends (first b) c i)
 recorded_stays b (Err x) c h = h
@@ -105,17 +105,18 @@ recorded_went b (Err x) c h = h
 
 root_went : (e : OptionExpr) (b : Builder) → Went b.stored (root_of e b).1.stored
 root_went e b =
-    let o = (lower_part e (closed b)).0 in
-    let c = (lower_part e (closed b)).1 in
-    rw (root_steps e b) (recorded_went b o c (went (part_leads e) (closed b)))
+    let o = (lower_part e (inside_root b)).0 in
+    let c = (lower_part e (inside_root b)).1 in
+    rw (root_steps e b) (recorded_went b o c (step_went (part_leads e) (inside_root b)))
 
 root_stays : (e : OptionExpr) (b : Builder) → MayBeOwned b.stored → Stays b.stored (root_of e b).1.stored
 root_stays e b m =
-    let o = (lower_part e (closed b)).0 in
-    let c = (lower_part e (closed b)).1 in
-    let ways : Went b.stored (go_on o c (recorded (first b))).1.stored = recorded_went b o c (went (part_leads e) (closed b)) in
+    let o = (lower_part e (inside_root b)).0 in
+    let c = (lower_part e (inside_root b)).1 in
+    let mappings : Went b.stored (go_on o c (recorded (first b))).1.stored = recorded_went b o c
+    (step_went (part_leads e) (inside_root b)) in
     rw (root_steps e b)
-    (stays_on (recorded_stays b o c (keeping e (closed b))) ways m)
+    (stays_on (recorded_stays b o c (keeping e (inside_root b))) mappings m)
 
 pub stays_unless : (e : OptionExpr) (b b' : Builder) (r : Checked ExprId) → Lowers HasExpr (root_of e) b r b' → MayBeOwned b.stored
     → r ≢ Err Memory → Stays b.stored b'.stored
@@ -136,9 +137,9 @@ may_be_owned_if e b b' (Err x) l m = tt
 
 -- where there is no room
 
-root_too_large : (e : OptionExpr) (b b' : Builder) (x : StoreFault) → Paired b.stored → root_of e b ≡ (Err x, b') → TooLarge b e
+root_too_large : (e : OptionExpr) (b b' : Builder) (x : StoreError) → Paired b.stored → root_of e b ≡ (Err x, b') → TooLarge b e
 root_too_large e b b' x d h =
-    by (lower_part e (closed b)).0 (lower_part e (closed b)).1 (all_fit e (closed b) d) (sym (root_steps e b) ∙ h)
+    by (lower_part e (inside_root b)).0 (lower_part e (inside_root b)).1 (all_fit e (inside_root b) d) (sym (root_steps e b) ∙ h)
   where
     by : (o : Checked ExprId) (c : Builder) → FitsUnless e b o c → go_on o c (recorded (first b)) ≡ (Err x, b') → TooLarge b e
     by (Ok i) c f g = let no = ap (λ (q : Checked ExprId × Builder). q.0) g in cc
@@ -154,13 +155,13 @@ too_large_if e b b' (Err x) l d is = let other : x ≢ Memory = λ m. cc in root
 -- the steps of a root that was lowered
 record Parts (e : OptionExpr) (b : Builder) (i : ExprId) (b' : Builder) : Type 0 where
   inner : Builder
-  is : lower_part e (closed b) ≡ (Ok i, inner)
+  is : lower_part e (inside_root b) ≡ (Ok i, inner)
   left : owned_root (first b) inner i ≡ b'
 
 parts : (e : OptionExpr) (b b' : Builder) (i : ExprId) → root_of e b ≡ (Ok i, b') → Parts e b i b'
-parts e b b' i h = by (lower_part e (closed b)).0 (lower_part e (closed b)).1 refl (sym (root_steps e b) ∙ h)
+parts e b b' i h = by (lower_part e (inside_root b)).0 (lower_part e (inside_root b)).1 refl (sym (root_steps e b) ∙ h)
   where
-    by : (o : Checked ExprId) (c : Builder) → lower_part e (closed b) ≡ (o, c) → go_on o c (recorded (first b)) ≡ (Ok i, b')
+    by : (o : Checked ExprId) (c : Builder) → lower_part e (inside_root b) ≡ (o, c) → go_on o c (recorded (first b)) ≡ (Ok i, b')
         → Parts e b i b'
     by (Ok j) c is g =
         let ok = ap (λ (q : Checked ExprId × Builder). q.0) g in
@@ -174,9 +175,9 @@ module _ (e : OptionExpr) (b inner : Builder) (i : ExprId) (none_open : b.scopes
     (is : lower_part e b ≡ (Ok i, inner)) where
   -- what stands for it once it owns what is bound in it
   owns_inside : (later : Stored) → Extends inner.stored later → Settled inner.stored later
-      → Shown (OwnedBy i (StandsPart (store_of later) (map_of later) [] e i)) b.stored (with_owned (first b) i inner.stored)
+      → Shown (OwnedBy i (CorrespondsPart (store_of later) (map_of later) [] e i)) b.stored (with_owned (first b) i inner.stored)
   owns_inside later ext still =
-      let x = subst (λ rs. Shown (StandsPart (store_of later) (map_of later) rs e i) b.stored inner.stored) none_open
+      let x = subst (λ rs. Shown (CorrespondsPart (store_of later) (map_of later) rs e i) b.stored inner.stored) none_open
       (part_shown e b i inner paired is later ext still) in
       shown_owned (first b) i refl x refl
 
@@ -188,8 +189,8 @@ module _ (e : OptionExpr) (b inner : Builder) (i : ExprId) (none_open : b.scopes
       let m = owns.moved in
       record {
         same = headline e b inner i lowered later ext;
-        ways = owns.ways;
-        stands = owns.shown;
+        mappings = owns.mappings;
+        corresponds = owns.shown;
         reaches = record {
           covers = m.covers;
           covers_labels = m.covers_labels;
@@ -198,9 +199,9 @@ module _ (e : OptionExpr) (b inner : Builder) (i : ExprId) (none_open : b.scopes
           labels = m.labels;
           settled = (all_stand e b i inner paired is later ext still).reaches.settled;
           defined = m.defined;
-          owner_ways = λ may. (m.owners may).are;
+          owner_mappings = λ may. (m.owners may).are;
         };
-        owner_ways = (m.owners may).are;
+        owner_mappings = (m.owners may).are;
         reached_once = λ depth le. expr_inside e b inner i lowered later ext depth le;
         types_reached_once = expr_types_once e b inner i paired is later ext;
         pats_reached_once = expr_pats_once e b inner i paired is later ext;
@@ -240,14 +241,13 @@ module _ (e : OptionExpr) (b inner : Builder) (i : ExprId) (none_open : b.scopes
   rooted_inside in_root may =
       let kept : KeepsAll b inner = subst (λ r. Keeps b r.0 r.1) is (keeping e b) in
       let fits = owned_inside in
-      let faults = diagnostics_are e b i inner paired is [] (ap (λ rs. map_ribs forget rs) (sym none_open)) in
       let after = kept.paired paired in
       record {
         lives = λ later x still.
             let live = lives_inside later (extends_trans (recorded_extends (first b) inner i) x) still may in record {
               same = live.same;
-              ways = live.ways;
-              stands = live.stands;
+              mappings = live.mappings;
+              corresponds = live.corresponds;
               reaches = record {
                 covers = live.reaches.covers;
                 covers_labels = live.reaches.covers_labels;
@@ -256,9 +256,9 @@ module _ (e : OptionExpr) (b inner : Builder) (i : ExprId) (none_open : b.scopes
                 labels = live.reaches.labels;
                 settled = live.reaches.settled;
                 defined = live.reaches.defined;
-                owner_ways = live.reaches.owner_ways;
+                owner_mappings = live.reaches.owner_mappings;
               };
-              owner_ways = live.owner_ways;
+              owner_mappings = live.owner_mappings;
               reached_once = live.reached_once;
               types_reached_once = live.types_reached_once;
               pats_reached_once = live.pats_reached_once;
@@ -286,9 +286,7 @@ module _ (e : OptionExpr) (b inner : Builder) (i : ExprId) (none_open : b.scopes
         owners = fits.owners may;
         roots = ap (λ rs. rs ++ root_at (store_of inner.stored) i ∷ []) (roots_inside in_root);
         bindings_came = expr_bindings_came e b inner i paired is;
-        more = faults.more;
-        faults = faults.is;
-        permuted = faults.permuted;
+        faults = diagnostics_are e b i inner paired is [] (ap (λ rs. map_ribs forget rs) (sym none_open));
         blocks = blocks_are e b i inner paired is;
         expansions = exprs_expand e b i inner paired is;
         paired = record {
@@ -305,7 +303,7 @@ root_rooted : (e : OptionExpr) (b b' : Builder) (i : ExprId) → Paired b.stored
     → Rooted b.stored b'.stored i e
 root_rooted e b b' i d m h =
     let p : Parts e b i b' = parts e b b' i h in
-    subst (λ x. Rooted b.stored x.stored i e) p.left (rooted_inside e (closed b) p.inner i refl d p.is refl m)
+    subst (λ x. Rooted b.stored x.stored i e) p.left (rooted_inside e (inside_root b) p.inner i refl d p.is refl m)
 
 pub rooted_if : (e : OptionExpr) (b b' : Builder) (r : Checked ExprId) → Lowers HasExpr (root_of e) b r b' → Paired b.stored
     → MayBeOwned b.stored → IfOk r (λ i. Rooted b.stored b'.stored i e)
@@ -317,10 +315,10 @@ root_apart : (e : OptionExpr) (b b' : Builder) (i : ExprId) → root_of e b ≡ 
     → MadeApart b'.names b'.stored
 root_apart e b b' i h d m =
     let p : Parts e b i b' = parts e b b' i h in
-    let kept : MadeApart p.inner.names p.inner.stored = apart_by (part_apart e) (closed b) p.inner i d p.is m in
-    let stands = apart_in (recorded_extends (first b) p.inner i) kept in
+    let kept : MadeApart p.inner.names p.inner.stored = apart_by (part_apart e) (inside_root b) p.inner i d p.is m in
+    let corresponds = apart_in (recorded_extends (first b) p.inner i) kept in
     let P : Builder → Type 0 = λ x. MadeApart x.names x.stored in
-    subst P p.left (apart_now (record { once = stands.once; later = stands.later }))
+    subst P p.left (apart_now (record { once = corresponds.once; later = corresponds.later }))
 
 pub apart_if : (e : OptionExpr) (b b' : Builder) (r : Checked ExprId) → Lowers HasExpr (root_of e) b r b' → Paired b.stored
     → ∥ MadeApart b.names b.stored ∥₁ → IfOk r (λ i. ∥ MadeApart b'.names b'.stored ∥₁)
@@ -351,7 +349,7 @@ root_mapped : (e : OptionExpr) (b b' : Builder) (i : ExprId) → Paired b.stored
     → Mapped b'.stored
 root_mapped e b b' i d h m =
     let p : Parts e b i b' = parts e b b' i h in
-    let kept : KeepsAll (closed b) p.inner = subst (λ r. Keeps (closed b) r.0 r.1) p.is (keeping e (closed b)) in
+    let kept : KeepsAll (inside_root b) p.inner = subst (λ r. Keeps (inside_root b) r.0 r.1) p.is (keeping e (inside_root b)) in
     let x = kept.mapped d m in
     subst (λ c. Mapped c.stored) p.left (record { types = x.types; lifetimes = x.lifetimes })
 
@@ -365,8 +363,8 @@ root_names : (e : OptionExpr) (b b' : Builder) (i : ExprId) → root_of e b ≡ 
     → b'.names ≡ b.names + (size_part e).names
 root_names e b b' i h d =
     let p : Parts e b i b' = parts e b b' i h in
-    let took : Took (size_part e) (closed b) p.inner =
-    subst (λ r. Room (size_part e) (closed b) r.0 r.1) p.is ((part_takes e).takes (closed b) d) in
+    let took : Took (size_part e) (inside_root b) p.inner =
+    subst (λ r. Room (size_part e) (inside_root b) r.0 r.1) p.is ((part_takes e).takes (inside_root b) d) in
     subst (λ x. x.names ≡ b.names + (size_part e).names) p.left took.names
 
 pub names_if : (e : OptionExpr) (b b' : Builder) (r : Checked ExprId) → Lowers HasExpr (root_of e) b r b' → Paired b.stored
@@ -379,7 +377,7 @@ root_room : (e : OptionExpr) (b b' : Builder) (i : ExprId) → root_of e b ≡ (
     → HadRoom (size_part e) b b'
 root_room e b b' i h d w =
     let p : Parts e b i b' = parts e b b' i h in
-    let room : HadRoom (size_part e) (closed b) p.inner = room_is_there.exprs e (closed b) p.inner i d w p.is in record {
+    let room : HadRoom (size_part e) (inside_root b) p.inner = room_is_there.exprs e (inside_root b) p.inner i d w p.is in record {
       fits = record {
         exprs = room.fits.exprs;
         labels = room.fits.labels;
@@ -407,7 +405,7 @@ within_if e b b' (Err f) l d w = tt
 root_outside : (e : OptionExpr) (b b' : Builder) (i : ExprId) → root_of e b ≡ (Ok i, b') → Outside b'
 root_outside e b b' i h =
     let p : Parts e b i b' = parts e b b' i h in
-    let kept : KeepsAll (closed b) p.inner = subst (λ r. Keeps (closed b) r.0 r.1) p.is (keeping e (closed b)) in
+    let kept : KeepsAll (inside_root b) p.inner = subst (λ r. Keeps (inside_root b) r.0 r.1) p.is (keeping e (inside_root b)) in
     subst Outside p.left (record { scopes = kept.scopes; in_root = refl })
 
 pub outside_if : (e : OptionExpr) (b b' : Builder) (r : Checked ExprId) → Lowers HasExpr (root_of e) b r b' → IfOk r (λ i. Outside b')

@@ -7,7 +7,7 @@ use Rattle.std.proofs.lemmas.List.Elements.{Contains-append_cases, Contains-appe
 use Rattle.hir_store.specs.Arenas.{Prefix, with_entry}
 use Rattle.hir_store.specs.Pointers.{Pointer}
 use Rattle.hir_store.specs.Stored.{SourceMap, Store, Stored, store_of, map_of}
-use Rattle.hir_store.specs.Storing.{Extends, type_id}
+use Rattle.hir_store.specs.StoreSink.{Extends, type_id}
 use Rattle.hir_store.specs.declared.ids.BindingId.{BindingId}
 use Rattle.hir_store.specs.declared.ids.ExprId.{ExprId}
 use Rattle.hir_store.specs.declared.ids.LabelId.{LabelId}
@@ -16,17 +16,19 @@ use Rattle.hir_store.specs.declared.type_ref.TypeRef.{TypeRef}
 use Rattle.hir_store.proofs.Arenas.{continues_refl, nodes_insert, prefix_push, prefix_refl, prefix_trans}
 use Rattle.hir_store.proofs.BindingLemmas.{bindings_refl}
 use Rattle.hir_store.proofs.Extending.{extends_refl, extends_trans}
-use Rattle.hir_one_result.specs.Leads.{Covers, CoversBindings, CoversLabels, Led, OwnersAre, Way, binding_way, expr_way, label_way}
-use Rattle.hir_one_result.specs.Leads.{unled_way}
-use Rattle.hir_one_result.proofs.Lasting.{in_prefix}
-use Rattle.hir_one_result.proofs.Led.{leads_nowhere, led_still, led_then}
-use Rattle.hir_lower.specs.Collected.{AllStand, Call, Collected, LeftBy, OfCalls, StandsFor, of_constant, of_path, of_type}
-use Rattle.hir_lower.specs.Roots.{fresh}
+use Rattle.thm_body_result.specs.Leads.{Covers, CoversBindings, CoversLabels, Led, OwnersAre, Mapping, binding_mapping, expr_mapping}
+use Rattle.thm_body_result.specs.Leads.{label_mapping}
+use Rattle.thm_body_result.specs.Leads.{unled_mapping}
+use Rattle.thm_body_result.proofs.Lasting.{in_prefix}
+use Rattle.thm_body_result.proofs.Led.{leads_nowhere, led_still, led_then}
+use Rattle.hir_lower.specs.Collected.{AllStand, Call, Collected, LeftBy, OfCalls, CorrespondsTo, of_constant, of_path, of_type}
+use Rattle.hir_lower.specs.Roots.{new_builder}
 use Rattle.hir_lower.specs.Stays.{Stays}
 
 -- ends of ways one behind the other
 
-module _ {I : Type 0} (place : I → ℕ) (End : List Way → I → Type 0) (us vs : List Way) (left : (i : I) → End us i → End (us ++ vs) i)
+module _ {I : Type 0} (place : I → ℕ) (End : List Mapping → I → Type 0) (us vs : List Mapping)
+    (left : (i : I) → End us i → End (us ++ vs) i)
     (right : (i : I) → End vs i → End (us ++ vs) i) where
   ends_then : (n m k : ℕ) → ((i : I) → n ≤ place i → place i < m → End us i) → ((i : I) → m ≤ place i → place i < k → End vs i)
       → (i : I) → n ≤ place i → place i < k → End (us ++ vs) i
@@ -36,30 +38,30 @@ module _ {I : Type 0} (place : I → ℕ) (End : List Way → I → Type 0) (us 
       by i from to true is = left i (g i from (ltb-true (place i) m is))
       by i from to false is = right i (h i (ltb-false (place i) m is) to)
 
-abbrev ExprEnd : List Way → ExprId → Type 0
-ExprEnd ws i = ((p : Pointer) × Contains ws (expr_way p i)) ⊎ Contains ws (unled_way i)
+abbrev ExprEnd : List Mapping → ExprId → Type 0
+ExprEnd ws i = ((p : Pointer) × Contains ws (expr_mapping p i)) ⊎ Contains ws (unled_mapping i)
 
-abbrev LabelEnd : List Way → LabelId → Type 0
-LabelEnd ws n = (p : Pointer) × Contains ws (label_way p n)
+abbrev LabelEnd : List Mapping → LabelId → Type 0
+LabelEnd ws n = (p : Pointer) × Contains ws (label_mapping p n)
 
-abbrev BindingEnd : List Way → BindingId → Type 0
-BindingEnd ws b = (o : Option ExprId) × Contains ws (binding_way b o)
+abbrev BindingEnd : List Mapping → BindingId → Type 0
+BindingEnd ws b = (o : Option ExprId) × Contains ws (binding_mapping b o)
 
-module _ (us vs : List Way) (n m k : ℕ) where
+module _ (us vs : List Mapping) (n m k : ℕ) where
   covers_then : Covers us n m → Covers vs m k → Covers (us ++ vs) n k
   covers_then = ends_then (λ i. i.0) ExprEnd us vs
-      (λ i. ⊎_elim (λ x. inl (x.0, Contains-append_left us vs (expr_way x.0 i) x.1))
-      (λ x. inr (Contains-append_left us vs (unled_way i) x)))
-      (λ i. ⊎_elim (λ x. inl (x.0, Contains-append_right us vs (expr_way x.0 i) x.1))
-      (λ x. inr (Contains-append_right us vs (unled_way i) x))) n m k
+      (λ i. ⊎_elim (λ x. inl (x.0, Contains-append_left us vs (expr_mapping x.0 i) x.1))
+      (λ x. inr (Contains-append_left us vs (unled_mapping i) x)))
+      (λ i. ⊎_elim (λ x. inl (x.0, Contains-append_right us vs (expr_mapping x.0 i) x.1))
+      (λ x. inr (Contains-append_right us vs (unled_mapping i) x))) n m k
 
   labels_then : CoversLabels us n m → CoversLabels vs m k → CoversLabels (us ++ vs) n k
-  labels_then = ends_then (λ i. i.0) LabelEnd us vs (λ i x. (x.0, Contains-append_left us vs (label_way x.0 i) x.1))
-      (λ i x. (x.0, Contains-append_right us vs (label_way x.0 i) x.1)) n m k
+  labels_then = ends_then (λ i. i.0) LabelEnd us vs (λ i x. (x.0, Contains-append_left us vs (label_mapping x.0 i) x.1))
+      (λ i x. (x.0, Contains-append_right us vs (label_mapping x.0 i) x.1)) n m k
 
   bindings_then : CoversBindings us n m → CoversBindings vs m k → CoversBindings (us ++ vs) n k
-  bindings_then = ends_then (λ i. i.0) BindingEnd us vs (λ i x. (x.0, Contains-append_left us vs (binding_way i x.0) x.1))
-      (λ i x. (x.0, Contains-append_right us vs (binding_way i x.0) x.1)) n m k
+  bindings_then = ends_then (λ i. i.0) BindingEnd us vs (λ i x. (x.0, Contains-append_left us vs (binding_mapping i x.0) x.1))
+      (λ i x. (x.0, Contains-append_right us vs (binding_mapping i x.0) x.1)) n m k
 
 -- what stays
 
@@ -112,47 +114,47 @@ module _ (before : Stored) (at : Pointer) (t : TypeRef) where
 -- one call behind the other
 
 record InOne (cs : List Call) (first s final : Stored) : Type 0 where
-  ways : List Way
-  stand : AllStand (store_of final) (map_of final) cs ways
-  covers : Covers ways (length first.exprs.entries) (length s.exprs.entries)
-  labels : CoversLabels ways (length first.labels.entries) (length s.labels.entries)
-  bindings : CoversBindings ways (length first.bindings.entries) (length s.bindings.entries)
-  owners : OwnersAre final.bindings.owners ways
-  led : Led (map_of first) (map_of s) ways
+  mappings : List Mapping
+  stand : AllStand (store_of final) (map_of final) cs mappings
+  covers : Covers mappings (length first.exprs.entries) (length s.exprs.entries)
+  labels : CoversLabels mappings (length first.labels.entries) (length s.labels.entries)
+  bindings : CoversBindings mappings (length first.bindings.entries) (length s.bindings.entries)
+  owners : OwnersAre final.bindings.owners mappings
+  led : Led (map_of first) (map_of s) mappings
 
 -- what one leaves
-record LeftWays (c : Call) (before s final : Stored) : Type 0 where
-  ways : List Way
-  stands : StandsFor (store_of final) (map_of final) c ways
-  covers : Covers ways (length before.exprs.entries) (length s.exprs.entries)
-  labels : CoversLabels ways (length before.labels.entries) (length s.labels.entries)
-  bindings : CoversBindings ways (length before.bindings.entries) (length s.bindings.entries)
-  owners : OwnersAre s.bindings.owners ways
-  led : Led (map_of before) (map_of s) ways
+record LeftMappings (c : Call) (before s final : Stored) : Type 0 where
+  mappings : List Mapping
+  corresponds : CorrespondsTo (store_of final) (map_of final) c mappings
+  covers : Covers mappings (length before.exprs.entries) (length s.exprs.entries)
+  labels : CoversLabels mappings (length before.labels.entries) (length s.labels.entries)
+  bindings : CoversBindings mappings (length before.bindings.entries) (length s.bindings.entries)
+  owners : OwnersAre s.bindings.owners mappings
+  led : Led (map_of before) (map_of s) mappings
 
-owners_later : (s final : Stored) (ws : List Way) → Onto s final → OwnersAre s.bindings.owners ws → OwnersAre final.bindings.owners ws
+owners_later : (s final : Stored) (ws : List Mapping) → Onto s final → OwnersAre s.bindings.owners ws → OwnersAre final.bindings.owners ws
 owners_later s final ws o h = λ b x c. in_prefix o.owners b.0 x (h b x c)
 
-owners_both : (os : List (Option ExprId)) (us vs : List Way) → OwnersAre os us → OwnersAre os vs → OwnersAre os (us ++ vs)
-owners_both os us vs g h = λ b o c. ⊎_elim (λ u. g b o u) (λ v. h b o v) (Contains-append_cases us vs (binding_way b o) c)
+owners_both : (os : List (Option ExprId)) (us vs : List Mapping) → OwnersAre os us → OwnersAre os vs → OwnersAre os (us ++ vs)
+owners_both os us vs g h = λ b o c. ⊎_elim (λ u. g b o u) (λ v. h b o v) (Contains-append_cases us vs (binding_mapping b o) c)
 
 one_more : (c : Call) (cs : List Call) (first before s final : Stored) → Onto s final → InOne cs first before final
-    → LeftWays c before s final → InOne (c ∷ cs) first s final
+    → LeftMappings c before s final → InOne (c ∷ cs) first s final
 one_more c cs first before s final onto x y = record {
-  ways = x.ways ++ y.ways;
-  stand = record { left = x.ways; right = y.ways; is = refl; first = x.stand; second = y.stands };
-  covers = covers_then x.ways y.ways _ (length before.exprs.entries) _ x.covers y.covers;
-  labels = labels_then x.ways y.ways _ (length before.labels.entries) _ x.labels y.labels;
-  bindings = bindings_then x.ways y.ways _ (length before.bindings.entries) _ x.bindings y.bindings;
-  owners = owners_both final.bindings.owners x.ways y.ways x.owners (owners_later s final y.ways onto y.owners);
+  mappings = x.mappings ++ y.mappings;
+  stand = record { left = x.mappings; right = y.mappings; is = refl; first = x.stand; second = y.corresponds };
+  covers = covers_then x.mappings y.mappings _ (length before.exprs.entries) _ x.covers y.covers;
+  labels = labels_then x.mappings y.mappings _ (length before.labels.entries) _ x.labels y.labels;
+  bindings = bindings_then x.mappings y.mappings _ (length before.bindings.entries) _ x.bindings y.bindings;
+  owners = owners_both final.bindings.owners x.mappings y.mappings x.owners (owners_later s final y.mappings onto y.owners);
   led = led_then x.led y.led;
 }
 
 one_type : (at : Pointer) (t : TypeRef) (i : TypeRefId) (cs : List Call) (first before final : Stored) → InOne cs first before final
     → InOne (of_type at t i ∷ cs) first (more before at t) final
 one_type at t i cs first before final x = record {
-  ways = x.ways;
-  stand = record { left = x.ways; right = []; is = sym (append-nil x.ways); first = x.stand; second = refl };
+  mappings = x.mappings;
+  stand = record { left = x.mappings; right = []; is = sym (append-nil x.mappings); first = x.stand; second = refl };
   covers = x.covers;
   labels = x.labels;
   bindings = x.bindings;
@@ -162,7 +164,7 @@ one_type at t i cs first before final x = record {
 
 one_none : (s final : Stored) → InOne [] s s final
 one_none s final = record {
-  ways = [];
+  mappings = [];
   stand = refl;
   covers = λ i from to. absurd (omega arith);
   labels = λ i from to. absurd (omega arith);
@@ -178,12 +180,12 @@ all_in_one (of_constant e i ∷ cs) first s final (before, (left, (rooted, stays
     one_more (of_constant e i) cs first before s final onto
     (all_in_one cs first before final left (onto_before before s final stays onto))
     (record {
-      ways = l.ways;
-      stands = l.stands;
+      mappings = l.mappings;
+      corresponds = l.corresponds;
       covers = l.reaches.covers;
       labels = l.reaches.covers_labels;
       bindings = l.reaches.covers_bindings;
-      owners = l.owner_ways;
+      owners = l.owner_mappings;
       led = l.reaches.led;
     })
 all_in_one (of_path p r ∷ cs) first s final (before, (left, (rooted, stays))) onto =
@@ -191,12 +193,12 @@ all_in_one (of_path p r ∷ cs) first s final (before, (left, (rooted, stays))) 
     one_more (of_path p r) cs first before s final onto
     (all_in_one cs first before final left (onto_before before s final stays onto))
     (record {
-      ways = l.ways;
-      stands = l.stands;
+      mappings = l.mappings;
+      corresponds = l.corresponds;
       covers = l.reaches.covers;
       labels = l.reaches.covers_labels;
       bindings = l.reaches.covers_bindings;
-      owners = l.owner_ways;
+      owners = l.owner_mappings;
       led = l.reaches.led;
     })
 all_in_one (of_type at t i ∷ cs) first s final (before, (left, adds)) onto =
@@ -207,17 +209,17 @@ all_in_one (of_type at t i ∷ cs) first s final (before, (left, adds)) onto =
 
 of_calls : (s : Stored) → Collected s → OfCalls (store_of s) (map_of s)
 of_calls s c =
-    let o = all_in_one c.calls (fresh c.limit).stored s s c.left (onto_itself s) in record {
+    let o = all_in_one c.calls (new_builder c.limit).stored s s c.left (onto_itself s) in record {
       last = s;
       store_is = refl;
       source_map_is = refl;
       collected = c;
-      ways = o.ways;
+      mappings = o.mappings;
       stand = o.stand;
       covers = o.covers;
       covers_labels = o.labels;
       covers_bindings = o.bindings;
-      owner_ways = o.owners;
+      owner_mappings = o.owners;
       leads = o.led [] (leads_nowhere refl refl refl refl);
     }
 

@@ -1,25 +1,25 @@
 -- The bodies inside the parameters of a body are what is written.
 use Rattle.std.proofs.Common.{arith, ◌≡◌, refl, ap, subst, ℕ, ◌+◌, ◌≤◌, Bool, true, false, List, [], ◌∷◌, ◌++◌, Some, None, Ok}
 use Rattle.hir_store.specs.Stored.{Stored, store_of}
-use Rattle.hir_store.specs.Storing.{Extends}
+use Rattle.hir_store.specs.StoreSink.{Extends}
 use Rattle.hir_store.specs.declared.ids.PatId.{PatId}
-use Rattle.hir_env.specs.Answered as tree
-use Rattle.hir_env.specs.Answered.{Formal, Formals, SelfFormal}
-use Rattle.hir_lower_form.specs.Builder.{Builder}
-use Rattle.hir_lower_form.specs.Forms.{some}
-use Rattle.hir_lower_form.specs.Lowering.{Lowering}
-use Rattle.hir_meaning.specs.Inner.{Bodies, all_of, pat_part_bodies, tops_bodies}
-use Rattle.hir_read_back.proofs.Layers.{Pushed}
-use Rattle.hir_steps.specs.Keeps.{Paired}
-use Rattle.hir_steps.proofs.Frames.{Frame}
-use Rattle.hir_steps.proofs.PatSteps.{correct_alloc_binding}
-use Rattle.hir_steps.proofs.Steps.{Mark, Correct, correct_as, correct_bind, correct_in_store, correct_pure, correct_report}
-use Rattle.hir_steps.proofs.TypeAny.{Any, any, pure_any, then_any}
-use Rattle.hir_same_meaning.proofs.HeldForms.{some_pushed}
-use Rattle.hir_same_meaning.proofs.HeldTree.{top_holds}
-use Rattle.hir_same_meaning.proofs.Holding.{Holds, SameIn, a_pat, each, holds_behind, holds_none, holds_one, inners_in, maybe, none_held}
-use Rattle.hir_same_meaning.proofs.Holding.{same_ids}
-use Rattle.hir_one_result.proofs.AfterLowering.{after_lowering}
+use Rattle.hir_env.specs.ResolvedTree as tree
+use Rattle.hir_env.specs.ResolvedTree.{Formal, Formals, SelfFormal}
+use Rattle.hir_lower_builder.specs.Builder.{Builder}
+use Rattle.hir_lower_builder.specs.Forms.{some}
+use Rattle.hir_lower_builder.specs.Lowering.{Lowering}
+use Rattle.spec_semantics.specs.Inner.{Bodies, all_of, pat_part_bodies, tops_bodies}
+use Rattle.thm_round_trip.proofs.Layers.{Pushed}
+use Rattle.thm_logic.specs.Keeps.{Paired}
+use Rattle.thm_logic.proofs.Frames.{Frame}
+use Rattle.thm_logic.proofs.PatSteps.{correct_alloc_binding}
+use Rattle.thm_logic.proofs.Steps.{Mark, Correct, correct_as, correct_bind, correct_in_store, correct_pure, correct_report}
+use Rattle.thm_logic.proofs.TypeAny.{Any, any, pure_any, then_any}
+use Rattle.thm_semantics.proofs.HeldForms.{some_pushed}
+use Rattle.thm_semantics.proofs.HeldTree.{top_holds}
+use Rattle.thm_semantics.proofs.Holding.{Holds, SameIn, a_pat, each, holds_behind, holds_none, holds_one, inners_in, maybe, none_held}
+use Rattle.thm_semantics.proofs.Holding.{same_ids}
+use Rattle.thm_body_result.proofs.AfterLowering.{after_lowering}
 use Rattle.hir_lower.specs.Formals.{Received, each_formal, formals_read, lower_formal, lower_formals, lower_self}
 use Rattle.hir_lower.specs.Means.{pats_inner_bodies}
 

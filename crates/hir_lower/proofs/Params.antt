@@ -5,8 +5,8 @@ use Rattle.std.proofs.lemmas.List.{length-map}
 use Rattle.std.specs.Prelude.{IfOk, option_and_then}
 use Rattle.hir_store.specs.Pointers.{Pointer}
 use Rattle.hir_store.specs.Stored.{Store, SourceMap, Stored, store_of, map_of}
-use Rattle.hir_store.specs.Storing as storing
-use Rattle.hir_store.specs.Storing.{Extends, root_at}
+use Rattle.hir_store.specs.StoreSink as store_sink
+use Rattle.hir_store.specs.StoreSink.{Extends, root_at}
 use Rattle.hir_store.specs.declared.diagnostics.MissingBodyItemKind.{MissingBodyItemKind}
 use Rattle.hir_store.specs.declared.hir.CoroutineKind.{CoroutineKind}
 use Rattle.hir_store.specs.declared.hir.Statement.{Statement}
@@ -15,40 +15,40 @@ use Rattle.hir_store.specs.declared.ids.ExprId.{ExprId}
 use Rattle.hir_store.specs.declared.ids.PatId.{PatId}
 use Rattle.hir_store.specs.declared.pat.Binding.{Binding}
 use Rattle.hir_store.proofs.Extending.{extends_root, extends_trans}
-use Rattle.hir_env.specs.Answered as tree
-use Rattle.hir_env.specs.Answered.{Formals, OptionExpr, SelfFormal}
-use Rattle.hir_data.specs.Data.{PatData}
-use Rattle.hir_data.specs.Patterns.{written_pat}
-use Rattle.hir_data.specs.Preludes.{formal_patterns}
-use Rattle.hir_data.specs.Reading.{stored_pat}
-use Rattle.hir_data.specs.Tops.{Tops}
-use Rattle.hir_lower_form.specs.Builder.{Builder}
-use Rattle.hir_lower_form.specs.Lowering.{Checked, Lowering}
-use Rattle.hir_read_back.proofs.Params.{pats_in}
-use Rattle.hir_steps.specs.Keeps.{Keeps, KeepsAll, Paired}
-use Rattle.hir_steps.proofs.Frames.{Frame}
-use Rattle.hir_steps.proofs.Keeping.{keeping}
-use Rattle.hir_steps.proofs.Steps.{Mark, Correct, correct_as, correct_bind, correct_in_store, correct_pure}
-use Rattle.hir_same_meaning.specs.Reached.{Spread}
-use Rattle.hir_same_meaning.proofs.Holding.{SameIn}
-use Rattle.hir_one_result.specs.Diagnostics.{Faults}
-use Rattle.hir_one_result.specs.Leads.{Way}
-use Rattle.hir_one_result.specs.Formals.{lower_body, lower_formals, plain_body}
-use Rattle.hir_one_result.specs.OneResult.{StandsBody, StandsSelf, fresh_owing}
-use Rattle.hir_one_result.specs.Room.{formals_data}
-use Rattle.hir_one_result.specs.StandsPreludes.{StandsSelfLet}
-use Rattle.hir_one_result.proofs.AfterLowering.{after_lowering}
-use Rattle.hir_one_result.proofs.Formals.{each_now}
-use Rattle.hir_one_result.proofs.Whole.{one_results}
-use Rattle.hir_type_result.specs.Named.{of_exprs, of_pats_alone}
-use Rattle.hir_type_result.specs.Pats.{of_types, pats_reached}
-use Rattle.hir_type_result.specs.Reached.{of_each}
+use Rattle.hir_env.specs.ResolvedTree as tree
+use Rattle.hir_env.specs.ResolvedTree.{Formals, OptionExpr, SelfFormal}
+use Rattle.spec_data.specs.Data.{PatData}
+use Rattle.spec_data.specs.Patterns.{written_pat}
+use Rattle.spec_data.specs.Preludes.{formal_patterns}
+use Rattle.spec_data.specs.Reading.{stored_pat}
+use Rattle.spec_data.specs.Tops.{Tops}
+use Rattle.hir_lower_builder.specs.Builder.{Builder}
+use Rattle.hir_lower_builder.specs.Lowering.{Checked, Lowering}
+use Rattle.thm_round_trip.proofs.Params.{pats_in}
+use Rattle.thm_logic.specs.Keeps.{Keeps, KeepsAll, Paired}
+use Rattle.thm_logic.proofs.Frames.{Frame}
+use Rattle.thm_logic.proofs.Keeping.{keeping}
+use Rattle.thm_logic.proofs.Steps.{Mark, Correct, correct_as, correct_bind, correct_in_store, correct_pure}
+use Rattle.thm_semantics.specs.Reached.{Spread}
+use Rattle.thm_semantics.proofs.Holding.{SameIn}
+use Rattle.thm_body_result.specs.Diagnostics.{Faults}
+use Rattle.thm_body_result.specs.Leads.{Mapping}
+use Rattle.thm_body_result.specs.Formals.{lower_body, lower_formals, plain_body}
+use Rattle.thm_body_result.specs.OneResult.{CorrespondsBody, CorrespondsSelf, fresh_owing}
+use Rattle.thm_body_result.specs.Room.{formals_data}
+use Rattle.thm_body_result.specs.CorrespondsPreludes.{CorrespondsSelfLet}
+use Rattle.thm_body_result.proofs.AfterLowering.{after_lowering}
+use Rattle.thm_body_result.proofs.Formals.{each_now}
+use Rattle.thm_body_result.proofs.Whole.{one_results}
+use Rattle.thm_type_result.specs.Named.{of_exprs, of_pats_alone}
+use Rattle.thm_type_result.specs.Pats.{of_types, pats_reached}
+use Rattle.thm_type_result.specs.Reached.{of_each}
 use Rattle.hir_lower.specs.Formals.{Given, Received, formals_read}
 use Rattle.hir_lower.specs.Means.{AreHandedIn, HasParams, IsSelfHandedIn, kind_unless_skipped, owed_faults, pats_inner_bodies}
 use Rattle.hir_lower.specs.Means.{receiver_read, unless_skipped}
-use Rattle.hir_lower.specs.Roots.{GivenFromNothing, StoresFromNothing, body_of, both, both_if_present, fresh, given_of}
+use Rattle.hir_lower.specs.Roots.{GivenFromNothing, StoresFromNothing, body_of, both, both_if_present, new_builder, given_of}
 use Rattle.hir_lower.specs.declared.body.Body.{Body}
-use Rattle.hir_lower.proofs.Behind.{PlainSteps, Steps, answered, closed, item_is, plain_steps, rooted, steps}
+use Rattle.hir_lower.proofs.Behind.{PlainSteps, Steps, answered, inside_root, item_is, plain_steps, with_root, steps}
 use Rattle.hir_lower.proofs.BodyTypes.{all_pats_once}
 use Rattle.hir_lower.proofs.FunctionParams.{function_reads}
 use Rattle.hir_lower.proofs.ParamBodies.{bodies_inside, read_bodies, self_any}
@@ -120,46 +120,47 @@ record SelfReads (kind : Option CoroutineKind) (store : Store) (given : Given) (
   handed : SelfTo kind store.bindings given s
   alike : is_some given.0.0 ≡ is_some given.1.0
 
-record SelfStands (bs : List Binding) (s : SelfFormal) (o : Option BindingId) : Type 0 where
+record SelfCorresponds (bs : List Binding) (s : SelfFormal) (o : Option BindingId) : Type 0 where
   is : bound bs o ≡ receiver_read s
   there : is_some o ≡ is_some (receiver_read s)
 
-absent_stands : (bs : List Binding) (s : SelfFormal) (o : Option BindingId) → receiver_read s ≡ None → o ≡ None → SelfStands bs s o
-absent_stands bs s o none h = record { is = ap (bound bs) h ∙ sym none; there = ap is_some h ∙ sym (ap is_some none) }
+absent_corresponds : (bs : List Binding) (s : SelfFormal) (o : Option BindingId) → receiver_read s ≡ None → o ≡ None
+    → SelfCorresponds bs s o
+absent_corresponds bs s o none h = record { is = ap (bound bs) h ∙ sym none; there = ap is_some h ∙ sym (ap is_some none) }
 
-present_stands : (bs : List Binding) (s : SelfFormal) (o : Option BindingId) (b : BindingId) (x : Binding) → receiver_read s ≡ Some x
-    → o ≡ Some b → slice_get bs b.0 ≡ Some x → SelfStands bs s o
-present_stands bs s o b x some h found =
+present_corresponds : (bs : List Binding) (s : SelfFormal) (o : Option BindingId) (b : BindingId) (x : Binding) → receiver_read s ≡ Some x
+    → o ≡ Some b → slice_get bs b.0 ≡ Some x → SelfCorresponds bs s o
+present_corresponds bs s o b x some h found =
     record { is = ap (bound bs) h ∙ (found ∙ sym some); there = ap is_some h ∙ sym (ap is_some some) }
 
-self_stands : (store : Store) (s : SelfFormal) (o : Option BindingId) (ws : List Way) → StandsSelf store s o ws
-    → SelfStands store.bindings s o
-self_stands store tree.no_self o ws h = absent_stands store.bindings tree.no_self o refl h.0
-self_stands store (tree.disabled_self at by) o ws h = absent_stands store.bindings (tree.disabled_self at by) o refl h.0
-self_stands store (tree.self_formal at u w) o ws h = present_stands store.bindings (tree.self_formal at u w) o h.0 _ refl h.1 h.2
+self_corresponds : (store : Store) (s : SelfFormal) (o : Option BindingId) (ws : List Mapping) → CorrespondsSelf store s o ws
+    → SelfCorresponds store.bindings s o
+self_corresponds store tree.no_self o ws h = absent_corresponds store.bindings tree.no_self o refl h.0
+self_corresponds store (tree.disabled_self at by) o ws h = absent_corresponds store.bindings (tree.disabled_self at by) o refl h.0
+self_corresponds store (tree.self_formal at u w) o ws h = present_corresponds store.bindings (tree.self_formal at u w) o h.0 _ refl h.1 h.2
 
-let_stands : (store : Store) (source_map : SourceMap) (s : SelfFormal) (o : Option BindingId) (ss : List Statement) (ws : List Way)
-    → StandsSelfLet store source_map s o ss ws → SelfStands store.bindings s o
-let_stands store source_map tree.no_self o ss ws h = absent_stands store.bindings tree.no_self o refl h.0
-let_stands store source_map (tree.disabled_self at by) o ss ws h =
-    absent_stands store.bindings (tree.disabled_self at by) o refl h.0
-let_stands store source_map (tree.self_formal at u w) o ss ws h =
-    present_stands store.bindings (tree.self_formal at u w) o h.0 _ refl h.3 h.6
+let_corresponds : (store : Store) (source_map : SourceMap) (s : SelfFormal) (o : Option BindingId) (ss : List Statement) (ws : List Mapping)
+    → CorrespondsSelfLet store source_map s o ss ws → SelfCorresponds store.bindings s o
+let_corresponds store source_map tree.no_self o ss ws h = absent_corresponds store.bindings tree.no_self o refl h.0
+let_corresponds store source_map (tree.disabled_self at by) o ss ws h =
+    absent_corresponds store.bindings (tree.disabled_self at by) o refl h.0
+let_corresponds store source_map (tree.self_formal at u w) o ss ws h =
+    present_corresponds store.bindings (tree.self_formal at u w) o h.0 _ refl h.3 h.6
 
 self_reads : (kind : Option CoroutineKind) (store : Store) (source_map : SourceMap) (skipped : Bool) (f : Formals) (e : OptionExpr)
-    (given : Given) (root : ExprId) (ws : List Way) → StandsBody store source_map [] kind skipped f e given root ws
+    (given : Given) (root : ExprId) (ws : List Mapping) → CorrespondsBody store source_map [] kind skipped f e given root ws
     → SelfReads kind store given f.receiver
 self_reads None store source_map skipped f e given root ws h =
-    let s = self_stands store f.receiver given.0.0 h.1.first.left h.1.first.first in
+    let s = self_corresponds store f.receiver given.0.0 h.1.first.left h.1.first.first in
     let P : Received → Type 0 = λ r. bound store.bindings r.0 ≡ receiver_read f.receiver in record {
       written = subst P (sym h.0) s.is;
       handed = sym h.0;
       alike = ap (λ (r : Received). is_some r.0) (sym h.0);
     }
 self_reads (Some kind) store source_map skipped f e given root ws h =
-    let outer = self_stands store f.receiver given.0.0 h.6.left h.6.first in
+    let outer = self_corresponds store f.receiver given.0.0 h.6.left h.6.first in
     let lets = h.6.second.first.2.second.second in
-    let inner = let_stands store source_map f.receiver given.1.0 h.1 lets.left lets.first in record {
+    let inner = let_corresponds store source_map f.receiver given.1.0 h.1 lets.left lets.first in record {
       written = inner.is;
       handed = outer.is;
       alike = outer.there ∙ sym inner.there;
@@ -185,18 +186,18 @@ module _ (kind : Option CoroutineKind) (skipped : Bool) (f : Formals) (e : Optio
   body = lower_body kind skipped f e
 
   root_reads : (b' : Builder) (given : Given) (i : ExprId) (s : Steps body start given i b') → BodyReads kind skipped f given b'.stored
-  unfolding storing.record_root
+  unfolding store_sink.record_root
   root_reads b' given i s =
-      let paired : Paired (closed start).stored =
+      let paired : Paired (inside_root start).stored =
       record { exprs = refl; labels = refl; pats = refl; types = refl; lifetimes = refl } in
       let root = extends_root s.inner.stored (root_at (store_of s.inner.stored) i) in
-      let end = (rooted s.inner i).stored in
+      let end = (with_root s.inner i).stored in
       let whole = one_results limit owed kind skipped f e given i s.inner s.lowered in
       let P : Builder → Type 0 = λ x. BodyReads kind skipped f given x.stored in
       subst P s.left (record {
-        reads = reads skipped f e (closed start) s.inner given i paired end root kind s.lowered;
-        self = self_reads kind (store_of end) (map_of end) skipped f e given whole.root whole.ways whole.stands;
-        pats_once = λ depth le. all_pats_once kind skipped f e (closed start) s.inner given i paired
+        reads = reads skipped f e (inside_root start) s.inner given i paired end root kind s.lowered;
+        self = self_reads kind (store_of end) (map_of end) skipped f e given whole.root whole.mappings whole.corresponds;
+        pats_once = λ depth le. all_pats_once kind skipped f e (inside_root start) s.inner given i paired
             (record { exprs = refl; pats = refl; types = refl }) s.lowered end root depth le;
       })
 
@@ -262,7 +263,7 @@ module _ (kind : Option CoroutineKind) (skipped : Bool) (node : Pointer) (k : Op
   abbrev read_kind : Option CoroutineKind
   read_kind = kind_unless_skipped skipped kind
 
-  item_reads : (b' : Builder) (given : Given) (i : ExprId) → body_of kind skipped node k f e (fresh limit) ≡ (Ok (given, i), b')
+  item_reads : (b' : Builder) (given : Given) (i : ExprId) → body_of kind skipped node k f e (new_builder limit) ≡ (Ok (given, i), b')
       → BodyReads read_kind skipped f given b'.stored
   item_reads b' given i h =
       let read = unless_skipped skipped e in

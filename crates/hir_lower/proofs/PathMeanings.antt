@@ -4,53 +4,53 @@ use Rattle.std.specs.Prelude.{IfOk, IsErrAnd, IsErrOf}
 use Rattle.hir_syntax.specs.declared.ast.Path.{Path as AstPath}
 use Rattle.std.proofs.Math.Logic.{∥∥₁_map}
 use Rattle.hir_store.specs.Stored.{Stored, store_of, map_of}
-use Rattle.hir_store.specs.Storing.{Extends}
+use Rattle.hir_store.specs.StoreSink.{Extends}
 use Rattle.hir_store.proofs.Arenas.{prefix_refl}
 use Rattle.hir_store.proofs.Extending.{extends_refl}
 use Rattle.hir_store.specs.declared.path.Path.{Path}
-use Rattle.hir_store.specs.declared.fault.StoreFault.{StoreFault}
-use Rattle.hir_store.specs.declared.fault.StoreFault.TheVariants.{Memory, Full}
-use Rattle.hir_env.specs.Spot.{Spot}
-use Rattle.hir_data.specs.Reading.{stored_path}
-use Rattle.hir_data.proofs.Segments.{segment_law}
-use Rattle.hir_lower_form.specs.Builder.{Builder}
-use Rattle.hir_lower_form.specs.Lowering.{Checked, SomeEnd}
-use Rattle.hir_lower_form.specs.Lower.{lower_path}
-use Rattle.hir_lower_form.specs.Methods.{LowersPath}
-use Rattle.hir_steps.specs.Keeps.{Keeps, KeepsAll, MadeApart, Mapped, Paired}
-use Rattle.hir_steps.proofs.ApartTree.{lower_path_apart}
-use Rattle.hir_steps.proofs.Keeping.{apart_by, paths_keep}
-use Rattle.hir_read_back.proofs.Now.{path_law}
-use Rattle.hir_one_result.specs.Laws.{Defined, Grown, GrownUnless, MayBeOwned, Settled}
-use Rattle.hir_one_result.specs.Diagnostics.{Around}
-use Rattle.hir_one_result.specs.Room.{Short, whole_size}
-use Rattle.hir_one_result.specs.Stands.{Open, WholeWays}
-use Rattle.hir_one_result.proofs.Fits.{paths_fit}
-use Rattle.hir_one_result.proofs.Leading.{Shown}
-use Rattle.hir_one_result.proofs.Tellings.{takes_of}
-use Rattle.hir_one_result.proofs.Took.{Room, Took}
-use Rattle.hir_one_result.proofs.TreeBlocks.{whole_enters}
-use Rattle.hir_one_result.proofs.TreeFaults.{whole_reports}
-use Rattle.hir_one_result.proofs.TreeRooms.{path_tells}
-use Rattle.hir_one_result.proofs.TreeStands.{whole_left}
-use Rattle.hir_told.specs.LeadsOn.{Went}
-use Rattle.hir_told.proofs.AsExpansions.{paths_expand}
-use Rattle.hir_told.proofs.AsStoredData.{paths_store}
-use Rattle.hir_type_result.specs.Roots.{RootsOf, recorded}
-use Rattle.hir_type_result.proofs.Behind.{blocks_behind, faults_behind, path_roots, ways_behind}
-use Rattle.hir_type_result.proofs.Inside.{path_inside}
-use Rattle.hir_type_result.proofs.Named.{path_bindings_came, path_pats_once, path_types_once}
-use Rattle.hir_item_result.specs.Exceeding.{FitsBehind, HadRoom, InLimits}
-use Rattle.hir_item_result.proofs.AsLimits.{room_is_there}
+use Rattle.hir_store.specs.declared.error.StoreError.{StoreError}
+use Rattle.hir_store.specs.declared.error.StoreError.TheVariants.{Memory, Full}
+use Rattle.hir_env.specs.ResolveCtx.{ResolveCtx}
+use Rattle.spec_data.specs.Reading.{stored_path}
+use Rattle.spec_data.proofs.Segments.{segment_theorem}
+use Rattle.hir_lower_builder.specs.Builder.{Builder}
+use Rattle.hir_lower_builder.specs.Lowering.{Checked, SomeEnd}
+use Rattle.hir_lower_builder.specs.Lower.{lower_path}
+use Rattle.hir_lower_builder.specs.Methods.{LowersPath}
+use Rattle.thm_logic.specs.Keeps.{Keeps, KeepsAll, MadeApart, Mapped, Paired}
+use Rattle.thm_logic.proofs.ApartTree.{lower_path_apart}
+use Rattle.thm_logic.proofs.Keeping.{apart_by, paths_keep}
+use Rattle.thm_round_trip.proofs.Now.{path_theorem}
+use Rattle.thm_body_result.specs.Theorems.{Defined, Grown, GrownUnless, MayBeOwned, Settled}
+use Rattle.thm_body_result.specs.Diagnostics.{Around}
+use Rattle.thm_body_result.specs.Room.{Short, whole_size}
+use Rattle.thm_body_result.specs.Corresponds.{Open, WholeMappings}
+use Rattle.thm_body_result.proofs.Fits.{paths_fit}
+use Rattle.thm_body_result.proofs.Leading.{Shown}
+use Rattle.thm_body_result.proofs.Emissions.{takes_of}
+use Rattle.thm_body_result.proofs.Took.{Room, Took}
+use Rattle.thm_body_result.proofs.TreeBlocks.{whole_enters}
+use Rattle.thm_body_result.proofs.TreeFaults.{whole_reports}
+use Rattle.thm_body_result.proofs.TreeRooms.{path_emits}
+use Rattle.thm_body_result.proofs.TreeCorresponds.{whole_left}
+use Rattle.thm_body_result.specs.LeadsOn.{Went}
+use Rattle.thm_body_result.proofs.AsExpansions.{paths_expand}
+use Rattle.thm_body_result.proofs.AsStoredData.{paths_store}
+use Rattle.thm_type_result.specs.Roots.{RootsOf, recorded_bodies}
+use Rattle.thm_type_result.proofs.Behind.{blocks_behind, faults_behind, path_roots, mappings_behind}
+use Rattle.thm_type_result.proofs.Inside.{path_inside}
+use Rattle.thm_type_result.proofs.Named.{path_bindings_came, path_pats_once, path_types_once}
+use Rattle.thm_item_result.specs.Exceeding.{FitsBehind, HadRoom, InLimits}
+use Rattle.thm_item_result.proofs.AsLimits.{room_is_there}
 use Rattle.hir_lower.specs.declared.error.LowerError.{LowerError}
 use Rattle.hir_lower.specs.declared.error.LowerError.TheVariants as refused
 use Rattle.hir_lower.specs.Beside.{TakesArguments}
 use Rattle.hir_lower.specs.Calls.{Outside, refusal}
 use Rattle.hir_lower.specs.Means.{BearsNames, ConstantsLive, PathRooted, ReadsBack, whole_path}
 use Rattle.hir_lower.specs.Stays.{Stays}
-use Rattle.hir_lower.proofs.BesideTraits.{beside_law}
-use Rattle.hir_told.proofs.AsWays.{path_leads}
-use Rattle.hir_told.proofs.Onward.{went}
+use Rattle.hir_lower.proofs.BesideTraits.{beside_theorem}
+use Rattle.thm_body_result.proofs.AsMappings.{path_leads}
+use Rattle.thm_body_result.proofs.Onward.{step_went}
 use Rattle.hir_lower.proofs.StaysOn.{stays_on}
 
 extends_of : (b : Builder) (o : Checked (Option Path)) (c : Builder) → Keeps b o c → Extends b.stored c.stored
@@ -58,33 +58,33 @@ extends_of b (Ok x) c h = h.stays
 extends_of b (Err e) c h = h
 
 -- `Full` behind a step that was refused is the step's own
-pub full_before : {A P : Type 0} (f : StoreFault) (r : Result A LowerError) → IsErrAnd r (λ e. e ≡ refusal f) → (f ≡ Full → P)
+pub full_before : {A P : Type 0} (f : StoreError) (r : Result A LowerError) → IsErrAnd r (λ e. e ≡ refusal f) → (f ≡ Full → P)
     → IsErrOf r refused.Full → P
 full_before Full (Err e) is h full = h refl
 full_before Memory (Err e) is h full = cc
 full_before f (Ok x) is h full = cc
 
 -- what is so of a path that stands alone
-module _ (at : Spot) (x : AstPath) (b b' : Builder) where
+module _ (at : ResolveCtx) (x : AstPath) (b b' : Builder) where
   abbrev Alone : Checked (Option Path) → Type 0
   Alone r = LowersPath (whole_path at x) b r b'
 
   pub data_if : (r : Checked (Option Path)) → Alone r → Paired b.stored → IfOk r (λ y. ReadsBack b'.stored y (whole_path at x))
-  data_if (Ok y) l d = λ later ext. path_law (whole_path at x) b b' y d l.0 later ext
+  data_if (Ok y) l d = λ later ext. path_theorem (whole_path at x) b b' y d l.0 later ext
   data_if (Err e) l d = tt
 
   pub names_if : (r : Checked (Option Path)) → Alone r → Paired b.stored → IfOk r (λ y. BearsNames b'.stored x y)
   names_if (Ok None) l d = tt
   names_if (Ok (Some y)) l d = λ later ext alone plain.
-      segment_law at x (stored_path (store_of later) (map_of later) y) alone plain
-      (sym (path_law (whole_path at x) b b' (Some y) d l.0 later ext))
+      segment_theorem at x (stored_path (store_of later) (map_of later) y) alone plain
+      (sym (path_theorem (whole_path at x) b b' (Some y) d l.0 later ext))
   names_if (Err e) l d = tt
 
   pub arguments_if : (r : Checked (Option Path)) → Alone r → Paired b.stored → IfOk r (λ y. TakesArguments b'.stored at x y)
   arguments_if (Ok None) l d = tt
   arguments_if (Ok (Some y)) l d = λ later ext alone plain.
-      beside_law at x (stored_path (store_of later) (map_of later) y) alone plain
-      (sym (path_law (whole_path at x) b b' (Some y) d l.0 later ext))
+      beside_theorem at x (stored_path (store_of later) (map_of later) y) alone plain
+      (sym (path_theorem (whole_path at x) b b' (Some y) d l.0 later ext))
   arguments_if (Err e) l d = tt
 
   -- where no label is open
@@ -93,7 +93,7 @@ module _ (at : Spot) (x : AstPath) (b b' : Builder) where
   none_around none = subst (λ rs. Around [] rs) (sym none) refl
 
   path_went : Went b.stored (lower_path (whole_path at x) b).1.stored
-  path_went = went (path_leads (whole_path at x)) b
+  path_went = step_went (path_leads (whole_path at x)) b
 
   path_stays : MayBeOwned b.stored → Stays b.stored (lower_path (whole_path at x) b).1.stored
   path_stays m =
@@ -101,11 +101,11 @@ module _ (at : Spot) (x : AstPath) (b b' : Builder) where
       stays_on (extends_of b o.0 o.1 (paths_keep (whole_path at x) b)) path_went m
 
   constants_live : (later : Stored) → b.scopes ≡ [] → MayBeOwned b.stored → Settled b.stored b'.stored
-      → Shown (WholeWays (store_of later) (map_of later) b.scopes (whole_path at x)) b.stored b'.stored
+      → Shown (WholeMappings (store_of later) (map_of later) b.scopes (whole_path at x)) b.stored b'.stored
       → ConstantsLive b.stored b'.stored later (whole_path at x)
   constants_live later none may settled w = record {
-    ways = w.ways;
-    stands = subst (λ rs. WholeWays (store_of later) (map_of later) rs (whole_path at x) w.ways) none w.shown;
+    mappings = w.mappings;
+    corresponds = subst (λ rs. WholeMappings (store_of later) (map_of later) rs (whole_path at x) w.mappings) none w.shown;
     reaches = record {
       covers = w.moved.covers;
       covers_labels = w.moved.covers_labels;
@@ -114,13 +114,13 @@ module _ (at : Spot) (x : AstPath) (b b' : Builder) where
       labels = w.moved.labels;
       settled = settled;
       defined = w.moved.defined;
-      owner_ways = λ may. (w.moved.owners may).are;
+      owner_mappings = λ may. (w.moved.owners may).are;
     };
-    owner_ways = (w.moved.owners may).are;
+    owner_mappings = (w.moved.owners may).are;
   }
 
   abbrev RootsIn : Stored → Open → Bool → Type 0
-  RootsIn later around inside = RootsOf around b.stored b'.stored later (recorded inside (whole_size (whole_path at x)).inner)
+  RootsIn later around inside = RootsOf around b.stored b'.stored later (recorded_bodies inside (whole_size (whole_path at x)).inner)
 
   roots_outside : (later : Stored) → Outside b → RootsIn later b.scopes b.in_root → RootsIn later [] false
   roots_outside later out h =
@@ -132,17 +132,14 @@ module _ (at : Spot) (x : AstPath) (b b' : Builder) where
       let p = whole_path at x in
       let none = out.scopes in
       let stays : Stays b.stored b'.stored = subst (λ q. Stays b.stored q.1.stored) l.0 (path_stays m) in
-      let faults = faults_behind b b' y d l.0 (whole_reports p) [] (none_around none) in
       let kept : KeepsAll b b' = subst (λ q. Keeps b q.0 q.1) l.0 (paths_keep (whole_path at x) b) in
       let grown : Grown (whole_size (whole_path at x)) b.stored b'.stored =
       subst (λ q. GrownUnless (whole_size (whole_path at x)) b q.0 q.1) l.0 (paths_fit (whole_path at x) b d) in
       record {
         inner = λ later ext. (path_roots p b b' y d l.0 later ext).1;
-        lives = λ later ext still. constants_live later none m stays.bindings (ways_behind b b' y d l.0 (whole_left p) later ext still);
+        lives = λ later ext still. constants_live later none m stays.bindings (mappings_behind b b' y d l.0 (whole_left p) later ext still);
         roots = λ later ext. roots_outside later out (path_roots p b b' y d l.0 later ext).0;
-        more = faults.more;
-        faults = faults.is;
-        permuted = faults.like;
+        faults = faults_behind b b' y d l.0 (whole_reports p) [] (none_around none);
         blocks = blocks_behind b b' y d l.0 (whole_enters p);
         expansions = paths_expand p b b' y d l.0;
         types_reached_once = λ later ext. path_types_once (whole_path at x) b b' y d l.0 later ext;
@@ -190,7 +187,7 @@ module _ (at : Spot) (x : AstPath) (b b' : Builder) where
       → IfOk r (λ y. b'.names ≡ b.names + (whole_size (whole_path at x)).names)
   path_names_if (Ok y) l d =
       let n = whole_size (whole_path at x) in
-      let took : Took n b b' = subst (λ q. Room n b q.0 q.1) l.0 ((takes_of (path_tells (whole_path at x))).takes b d) in took.names
+      let took : Took n b b' = subst (λ q. Room n b q.0 q.1) l.0 ((takes_of (path_emits (whole_path at x))).takes b d) in took.names
   path_names_if (Err e) l d = tt
 
   -- there was room for what came
@@ -210,7 +207,7 @@ module _ (at : Spot) (x : AstPath) (b b' : Builder) where
   ends_if (Ok y) l is = cc
   ends_if (Err e) l is = let other : e ≢ Memory = λ m. cc in (l other).1
 
-  short_if : (e : StoreFault) → Paired b.stored → lower_path (whole_path at x) b ≡ (Err e, b') → Short (whole_size (whole_path at x)) b
+  short_if : (e : StoreError) → Paired b.stored → lower_path (whole_path at x) b ≡ (Err e, b') → Short (whole_size (whole_path at x)) b
   short_if e d is = subst (λ q. GrownUnless (whole_size (whole_path at x)) b q.0 q.1) is (paths_fit (whole_path at x) b d)
 
   pub path_too_large_if : (r : Checked (Option Path)) → Alone r → Paired b.stored → IsErrOf r Full

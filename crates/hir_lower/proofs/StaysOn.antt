@@ -2,11 +2,11 @@
 use Rattle.hir_store.proofs.Arenas.{prefix_refl}
 use Rattle.hir_store.proofs.Extending.{extends_refl}
 use Rattle.hir_store.specs.Stored.{Stored}
-use Rattle.hir_store.specs.Storing.{Extends}
-use Rattle.hir_one_result.specs.Laws.{MayBeOwned}
+use Rattle.hir_store.specs.StoreSink.{Extends}
+use Rattle.thm_body_result.specs.Theorems.{MayBeOwned}
 use Rattle.hir_lower.specs.Stays.{Stays}
-use Rattle.hir_told.specs.LeadsOn.{Went, expr_place, label_place, lifetime_place, pat_place, type_place}
-use Rattle.hir_told.proofs.Onward.{on_refl}
+use Rattle.thm_body_result.specs.LeadsOn.{Went, expr_place, label_place, lifetime_place, pat_place, type_place}
+use Rattle.thm_body_result.proofs.Onward.{on_refl}
 
 pub stays_refl : (a : Stored) → Stays a a
 stays_refl a = record {
@@ -26,10 +26,10 @@ stays_on x w m = record {
   extends = x;
   bindings = w.bindings;
   owners = (w.owners m).0;
-  exprs = w.exprs.ways;
-  labels = w.labels.ways;
-  pats = w.pats.ways;
+  exprs = w.exprs.mappings;
+  labels = w.labels.mappings;
+  pats = w.pats.mappings;
   targets = w.targets;
-  types = w.types.ways;
-  lifetimes = w.lifetimes.ways;
+  types = w.types.mappings;
+  lifetimes = w.lifetimes.mappings;
 }

@@ -8,36 +8,36 @@ use Rattle.std.specs.Prelude.{IfOk, IsErrOf, Result}
 use Rattle.hir_store.specs.Pointers.{Pointer}
 use Rattle.hir_syntax.specs.declared.types.Type_.{Type_ as AstType_}
 use Rattle.hir_store.specs.Stored.{Store, SourceMap, store_of}
-use Rattle.hir_store.specs.Storing as storing
-use Rattle.hir_store.specs.Storing.{type_id}
+use Rattle.hir_store.specs.StoreSink as store_sink
+use Rattle.hir_store.specs.StoreSink.{type_id}
 use Rattle.hir_store.specs.Range.{HasType}
-use Rattle.hir_store.specs.declared.fault.StoreFault.TheVariants.{Memory, Full}
+use Rattle.hir_store.specs.declared.error.StoreError.TheVariants.{Memory, Full}
 use Rattle.hir_store.specs.declared.ids.TypeRefId.{TypeRefId}
 use Rattle.hir_store.specs.declared.type_ref.TypeRef.{TypeRef}
-use Rattle.hir_env.specs.Spot.{Spot}
-use Rattle.hir_lower_form.specs.Builder.{Builder, fresh}
-use Rattle.hir_lower_form.specs.Lower.{type_part}
-use Rattle.hir_lower_form.specs.Lowering.{Checked, Lowers, SomeEnd, alloc_type}
-use Rattle.hir_steps.specs.Keeps.{MadeApart, Mapped, Paired}
-use Rattle.hir_steps.proofs.Apart.{stored_type_apart}
-use Rattle.hir_steps.proofs.Keeping.{apart_by}
-use Rattle.hir_steps.proofs.Mapping.{leads_entry}
-use Rattle.hir_one_result.specs.Laws.{Defined, MayBeOwned}
-use Rattle.hir_told.specs.StoredData.{ReadsAs}
-use Rattle.hir_told.proofs.AsExpansions.{types_expand}
-use Rattle.hir_told.proofs.AsStoredData.{whole_types_store}
-use Rattle.hir_one_result.specs.Room.{type_part_size}
-use Rattle.hir_type_result.specs.TypeResult.{TypeResult}
-use Rattle.hir_type_result.proofs.Whole.{refused_types, type_results}
-use Rattle.hir_item_result.specs.Exceeding.{Exceeds, FitsIn, InLimits}
-use Rattle.hir_item_result.proofs.AsLimits.{fits_first, fresh_within, room_is_there}
-use Rattle.hir_item_result.proofs.Limits.{LimitsTo, limited_type}
-use Rattle.hir_item_result.proofs.Took.{exceeds_first}
+use Rattle.hir_env.specs.ResolveCtx.{ResolveCtx}
+use Rattle.hir_lower_builder.specs.Builder.{Builder, new_builder}
+use Rattle.hir_lower_builder.specs.Lower.{type_part}
+use Rattle.hir_lower_builder.specs.Lowering.{Checked, Lowers, SomeEnd, alloc_type}
+use Rattle.thm_logic.specs.Keeps.{MadeApart, Mapped, Paired}
+use Rattle.thm_logic.proofs.Apart.{stored_type_apart}
+use Rattle.thm_logic.proofs.Keeping.{apart_by}
+use Rattle.thm_logic.proofs.Mapping.{leads_entry}
+use Rattle.thm_body_result.specs.Theorems.{Defined, MayBeOwned}
+use Rattle.thm_body_result.specs.StoredData.{ReadsAs}
+use Rattle.thm_body_result.proofs.AsExpansions.{types_expand}
+use Rattle.thm_body_result.proofs.AsStoredData.{whole_types_store}
+use Rattle.thm_body_result.specs.Room.{type_part_size}
+use Rattle.thm_type_result.specs.TypeResult.{TypeResult}
+use Rattle.thm_type_result.proofs.Whole.{refused_types, type_results}
+use Rattle.thm_item_result.specs.Exceeding.{Exceeds, FitsIn, InLimits}
+use Rattle.thm_item_result.proofs.AsLimits.{fits_first, fresh_within, room_is_there}
+use Rattle.thm_item_result.proofs.Limits.{LimitsTo, limited_type}
+use Rattle.thm_item_result.proofs.Took.{exceeds_first}
 use Rattle.hir_lower.specs.Calls.{Outside}
 use Rattle.hir_lower.specs.Data.{data_in_type}
 use Rattle.hir_lower.specs.Means.{AddsType, NoRoomForType, RoomForType, expanded_in_type, whole_type}
 use Rattle.hir_lower.specs.Roots.{AnswersFromNothing, RefusedAtEnd}
-use Rattle.hir_told.proofs.Onward.{made}
+use Rattle.thm_body_result.proofs.Onward.{made}
 
 -- what the step does
 abbrev after : Bool → Builder → TypeRef → Pointer → Checked TypeRefId × Builder
@@ -46,7 +46,7 @@ after t b ty at =
 
 alloc_is : (b : Builder) (ty : TypeRef) (at : Pointer)
     → alloc_type ty (Some at) b ≡ after (nat_lt (length b.stored.types.entries) b.stored.types.limit) b ty at
-unfolding alloc_type storing.alloc_type
+unfolding alloc_type store_sink.alloc_type
 alloc_is b ty at = refl
 
 module _ (b b' : Builder) (ty : TypeRef) (at : Pointer) where
@@ -132,6 +132,21 @@ module _ (b b' : Builder) (ty : TypeRef) (at : Pointer) where
   names_of_type_if (Err e) l n =
       let other : e ≢ Memory = λ is. n (ap Err is) in sym (ap (λ (q : Checked TypeRefId × Builder). q.1.names) (l other).0) ∙ no_name
 
+  no_tracks_after : (t : Bool) → (after t b ty at).1.tracks ≡ b.tracks
+  no_tracks_after true = refl
+  no_tracks_after false = refl
+
+  no_side_output : (alloc_type ty (Some at) b).1.tracks ≡ b.tracks
+  no_side_output =
+      ap (λ (q : Checked TypeRefId × Builder). q.1.tracks) (alloc_is b ty at)
+      ∙ no_tracks_after (nat_lt (length b.stored.types.entries) b.stored.types.limit)
+
+  pub tracks_of_type_if : (r : Checked TypeRefId) → Alone r → r ≢ Err Memory → b'.tracks ≡ b.tracks
+  tracks_of_type_if (Ok i) l n = sym (ap (λ (q : Checked TypeRefId × Builder). q.1.tracks) l.0) ∙ no_side_output
+  tracks_of_type_if (Err e) l n =
+      let other : e ≢ Memory = λ is. n (ap Err is) in sym (ap (λ (q : Checked TypeRefId × Builder). q.1.tracks) (l other).0)
+      ∙ no_side_output
+
   outside_after : (t : Bool) → Outside b → Outside (after t b ty at).1
   outside_after true o = record { scopes = o.scopes; in_root = o.in_root }
   outside_after false o = record { scopes = o.scopes; in_root = o.in_root }
@@ -181,7 +196,7 @@ module _ (b b' : Builder) (ty : TypeRef) (at : Pointer) where
   apart_type_if (Err e) l d m = tt
 
 -- a type that stands alone, lowered from nothing
-module _ (at : Spot) (x : Option AstType_) (limit : ℕ) where
+module _ (at : ResolveCtx) (x : Option AstType_) (limit : ℕ) where
   type_result : (i : TypeRefId) (store : Store) (source_map : SourceMap)
       → AnswersFromNothing (type_part None (whole_type at x)) limit i store source_map → TypeResult store source_map i (whole_type at x)
   type_result i store source_map s =
@@ -200,9 +215,9 @@ module _ (at : Spot) (x : Option AstType_) (limit : ℕ) where
       → IfOk r (λ a. AnswersFromNothing (type_part None (whole_type at x)) limit (id a) (store a) (source_map a))
       → IfOk r (λ a. (source_map a).expansions ≡ expanded_in_type (whole_type at x))
   type_expanded_if store source_map id (Ok a) h =
-      let none : Paired (fresh limit).stored = record { exprs = refl; labels = refl; pats = refl; types = refl; lifetimes = refl } in
+      let none : Paired (new_builder limit).stored = record { exprs = refl; labels = refl; pats = refl; types = refl; lifetimes = refl } in
       ap (λ (m : SourceMap). m.expansions) h.source_map_is
-      ∙ types_expand None (whole_type at x) (fresh limit) h.builder (id a) none h.done
+      ∙ types_expand None (whole_type at x) (new_builder limit) h.builder (id a) none h.done
   type_expanded_if store source_map id (Err e) h = tt
 
   type_stored : (i : TypeRefId) (store : Store) (source_map : SourceMap)
@@ -228,6 +243,6 @@ module _ (at : Spot) (x : Option AstType_) (limit : ℕ) where
       → IfOk r (λ a. AnswersFromNothing (type_part None (whole_type at x)) limit (id a) (store a) (source_map a))
       → IfOk r (λ a. FitsIn limit (type_part_size (whole_type at x)))
   type_fits_if store source_map id (Ok a) h =
-      let none : Paired (fresh limit).stored = record { exprs = refl; labels = refl; pats = refl; types = refl; lifetimes = refl } in
-      fits_first (room_is_there.types (whole_type at x) (fresh limit) h.builder (id a) none (fresh_within limit) h.done).fits
+      let none : Paired (new_builder limit).stored = record { exprs = refl; labels = refl; pats = refl; types = refl; lifetimes = refl } in
+      fits_first (room_is_there.types (whole_type at x) (new_builder limit) h.builder (id a) none (fresh_within limit) h.done).fits
   type_fits_if store source_map id (Err e) h = tt

@@ -3,16 +3,16 @@
 use Rattle.std.specs.Prelude.{◌≡◌, List, Some, Ok, Err}
 use Rattle.hir_store.specs.Pointers.{Pointer}
 use Rattle.hir_store.specs.Stored.{Stored}
-use Rattle.hir_store.specs.declared.fault.StoreFault.{StoreFault}
-use Rattle.hir_store.specs.declared.fault.StoreFault.TheVariants.{Full}
+use Rattle.hir_store.specs.declared.error.StoreError.{StoreError}
+use Rattle.hir_store.specs.declared.error.StoreError.TheVariants.{Full}
 use Rattle.hir_store.specs.declared.ids.GenericDefId.{GenericDefId}
 use Rattle.hir_store.specs.declared.ids.TypeRefId.{TypeRefId}
 use Rattle.hir_store.specs.declared.type_ref.TypeBound.{TypeBound}
-use Rattle.hir_env.specs.declared.place.ImplTrait.{ImplTrait}
-use Rattle.hir_env.specs.declared.place.ImplTrait.TheVariants.{Argument}
-use Rattle.hir_lower_form.specs.Builder.{Builder}
-use Rattle.hir_lower_form.specs.Lowering.{Lowering, becoming}
-use Rattle.hir_lower_form.specs.declared.generics.GenericLists.{GenericLists}
+use Rattle.hir_env.specs.declared.ctx.ImplTrait.{ImplTrait}
+use Rattle.hir_env.specs.declared.ctx.ImplTrait.TheVariants.{Argument}
+use Rattle.hir_lower_builder.specs.Builder.{Builder}
+use Rattle.hir_lower_builder.specs.Lowering.{Lowering, becoming}
+use Rattle.hir_lower_builder.specs.declared.generics.GenericLists.{GenericLists}
 use Rattle.hir_lower.specs.Means.{AddsType, NoRoomForImpl, RoomForImpl, becomes, lists_behind}
 
 module _ (def : GenericDefId) (at : Pointer) (bounds : List TypeBound) where
@@ -27,18 +27,18 @@ module _ (def : GenericDefId) (at : Pointer) (bounds : List TypeBound) where
   -- and that there was room.
   pub record Lowered (old new : Stored) (lists behind : GenericLists) (i : TypeRefId) : Type 0 where
     pub adds : AddsType old new i (becomes in_argument (Some lists) bounds) at
-    pub notes : Some behind ≡ lists_behind in_argument (Some lists) i bounds
+    pub tracks : Some behind ≡ lists_behind in_argument (Some lists) i bounds
     pub fits : RoomForImpl old (Some lists)
 
   -- From any builder on: where the step answers, that is what is promised; what is promised is what the step answers, stores and notes, and
   -- nothing else changes; and it is refused just where there is no room.
   pub record SameAsWalk (b : Builder) : Type 0 where
     pub walked : (i : TypeRefId) (c : Builder) → walk_step b ≡ (Ok i, c)
-        → Lowered b.stored c.stored b.notes.generics c.notes.generics i
-    pub lowered : (i : TypeRefId) (new : Stored) (behind : GenericLists) → Lowered b.stored new b.notes.generics behind i
-        → walk_step b ≡ (Ok i, record b { stored = new; notes = record b.notes { generics = behind } })
-    pub refused : (fault : StoreFault) (c : Builder) → walk_step b ≡ (Err fault, c) → NoRoomForImpl b.stored (Some b.notes.generics)
-    pub full : NoRoomForImpl b.stored (Some b.notes.generics) → (walk_step b).0 ≡ Err Full
+        → Lowered b.stored c.stored b.tracks.generics c.tracks.generics i
+    pub lowered : (i : TypeRefId) (new : Stored) (behind : GenericLists) → Lowered b.stored new b.tracks.generics behind i
+        → walk_step b ≡ (Ok i, record b { stored = new; tracks = record b.tracks { generics = behind } })
+    pub refused : (fault : StoreError) (c : Builder) → walk_step b ≡ (Err fault, c) → NoRoomForImpl b.stored (Some b.tracks.generics)
+    pub full : NoRoomForImpl b.stored (Some b.tracks.generics) → (walk_step b).0 ≡ Err Full
 
 abbrev pub ArgumentsAreOne : Type 0
 ArgumentsAreOne = (def : GenericDefId) (at : Pointer) (bounds : List TypeBound) (b : Builder) → SameAsWalk def at bounds b

@@ -4,19 +4,19 @@ use Rattle.hir_syntax.specs.declared.ast.Path.{Path as AstPath, out-Path}
 use Rattle.hir_syntax.specs.declared.ast.PathSegment.{PathSegment as AstSegment, out-PathSegment}
 use Rattle.hir_syntax.specs.declared.types.PathType.{PathType as AstPathType, out-PathType}
 use Rattle.hir_store.specs.Stored.{Stored, store_of, map_of}
-use Rattle.hir_store.specs.Storing.{Extends}
+use Rattle.hir_store.specs.StoreSink.{Extends}
 use Rattle.hir_store.specs.declared.path.Path.{Path}
-use Rattle.hir_env.specs.Answered as tree
-use Rattle.hir_env.specs.Answered.{Segment}
+use Rattle.hir_env.specs.ResolvedTree as tree
+use Rattle.hir_env.specs.ResolvedTree.{Segment}
 use Rattle.hir_env.specs.Paths.{inside_projection}
-use Rattle.hir_env.specs.Spot.{Spot}
-use Rattle.hir_env.specs.Whole.{answered_segment, type_part}
-use Rattle.hir_data.specs.Data as datum
-use Rattle.hir_data.specs.Data.{NamesData, OptionArgsData, PathData, TypeData, no_args}
-use Rattle.hir_data.specs.Reading.{stored_path}
-use Rattle.hir_data.specs.Rule.{self_first}
-use Rattle.hir_data.specs.Segments.{PlainTrait, Whole, all_but_first, first_trait, named_among}
-use Rattle.hir_data.specs.Written.{absent_data, segment_args_data, written_type}
+use Rattle.hir_env.specs.ResolveCtx.{ResolveCtx}
+use Rattle.hir_env.specs.Whole.{resolved_segment, type_part}
+use Rattle.spec_data.specs.Data as datum
+use Rattle.spec_data.specs.Data.{NamesData, OptionArgsData, PathData, TypeData, no_args}
+use Rattle.spec_data.specs.Reading.{stored_path}
+use Rattle.spec_data.specs.Rule.{self_first}
+use Rattle.spec_data.specs.Segments.{PlainTrait, Whole, all_but_first, first_trait, named_among}
+use Rattle.spec_data.specs.Written.{absent_data, segment_args_data, written_type}
 
 abbrev pub beside_names : NamesData → List OptionArgsData
 beside_names datum.no_names = []
@@ -31,18 +31,18 @@ abbrev pub behind_name : Segment → OptionArgsData
 behind_name (tree.name_segment n _ a) = segment_args_data a
 behind_name _ = no_args
 
-abbrev pub args_behind : Spot → AstSegment → OptionArgsData
-args_behind at s = behind_name (answered_segment at s)
+abbrev pub args_behind : ResolveCtx → AstSegment → OptionArgsData
+args_behind at s = behind_name (resolved_segment at s)
 
-abbrev pub all_behind : Spot → List (Option AstSegment) → List OptionArgsData
+abbrev pub all_behind : ResolveCtx → List (Option AstSegment) → List OptionArgsData
 all_behind at ss = map (args_behind at) (named_among ss)
 
 -- where the type and the trait of `<T as Trait>` are read
-abbrev pub in_projection : Spot → Spot
+abbrev pub in_projection : ResolveCtx → ResolveCtx
 in_projection at = record at { place = inside_projection at.place }
 
 -- T of a path that begins with it
-abbrev pub type_in_front : Spot → List (Option AstSegment) → TypeData
+abbrev pub type_in_front : ResolveCtx → List (Option AstSegment) → TypeData
 type_in_front at (Some s ∷ ss) = written_type (type_part (in_projection at) (out-PathSegment s).ty)
 type_in_front at _ = absent_data
 
@@ -59,7 +59,7 @@ segments_in None = []
 segments_in (Some q) = (out-Path q).segs
 
 -- Behind the segments of a path, with those of its trait in place of a qualified type.
-abbrev pub args_of_named : Spot → Option AstPathType → List (Option AstSegment) → List OptionArgsData
+abbrev pub args_of_named : ResolveCtx → Option AstPathType → List (Option AstSegment) → List OptionArgsData
 args_of_named at None ss = all_behind at ss
 args_of_named at (Some t) ss =
     last_behind_type (type_in_front at ss) (all_behind (in_projection at) (segments_in (out-PathType t).path))
@@ -67,7 +67,7 @@ args_of_named at (Some t) ss =
 
 -- Beside its names are the arguments of the written segments that bear one, of the last one of a trait behind the type that the trait is
 -- of, where no use tree stands around it or its trait, no segment of either is missing, and its trait has no qualified type.
-abbrev pub TakesArguments : Stored → Spot → AstPath → Option Path → Type 0
+abbrev pub TakesArguments : Stored → ResolveCtx → AstPath → Option Path → Type 0
 TakesArguments new at x None = Unit {0}
 TakesArguments new at x (Some p) = let ss = (out-Path x).segs in
     (later : Stored) → Extends new later → Whole x → PlainTrait (first_trait ss)

@@ -1,12 +1,12 @@
 -- What a call of a collector does.
 use Rattle.std.specs.Prelude.{◌≡◌, ◌≢◌, Bool, true, false, is_err, [], Result, Err}
-use Rattle.hir_store.specs.declared.fault.StoreFault.{StoreFault}
-use Rattle.hir_store.specs.declared.fault.StoreFault.TheVariants as fault
+use Rattle.hir_store.specs.declared.error.StoreError.{StoreError}
+use Rattle.hir_store.specs.declared.error.StoreError.TheVariants as fault
 use Rattle.hir_lower.specs.declared.error.LowerError.{LowerError}
 use Rattle.hir_lower.specs.declared.error.LowerError.TheVariants.{Memory, Full, Failed}
-use Rattle.hir_lower_form.specs.Builder.{Builder}
+use Rattle.hir_lower_builder.specs.Builder.{Builder}
 
-abbrev pub refusal : StoreFault → LowerError
+abbrev pub refusal : StoreError → LowerError
 refusal fault.Memory = Memory
 refusal fault.Full = Full
 

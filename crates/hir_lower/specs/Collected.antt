@@ -6,11 +6,11 @@ use Rattle.hir_store.specs.declared.ids.ExprId.{ExprId}
 use Rattle.hir_store.specs.declared.ids.TypeRefId.{TypeRefId}
 use Rattle.hir_store.specs.declared.path.Path.{Path}
 use Rattle.hir_store.specs.declared.type_ref.TypeRef.{TypeRef}
-use Rattle.hir_env.specs.Answered.{OptionExpr, OptionPath}
-use Rattle.hir_one_result.specs.Leads.{Covers, CoversBindings, CoversLabels, MapLeads, No, OwnedBy, OwnersAre, Way, Ways, ◌&◌}
-use Rattle.hir_one_result.specs.Stands.{StandsPart, WholeWays}
+use Rattle.hir_env.specs.ResolvedTree.{OptionExpr, OptionPath}
+use Rattle.thm_body_result.specs.Leads.{Covers, CoversBindings, CoversLabels, MapLeads, No, OwnedBy, OwnersAre, Mapping, Mappings, ◌&◌}
+use Rattle.thm_body_result.specs.Corresponds.{CorrespondsPart, WholeMappings}
 use Rattle.hir_lower.specs.Means.{AddsType, PathRooted, Rooted}
-use Rattle.hir_lower.specs.Roots.{fresh}
+use Rattle.hir_lower.specs.Roots.{new_builder}
 use Rattle.hir_lower.specs.Stays.{Stays}
 
 -- a call that was answered `Ok`, with the tree that it was of and what it answered
@@ -36,18 +36,18 @@ LeftBy (c ∷ cs) first now = (before : Stored) × (LeftBy cs first before × Le
 pub record Collected (s : Stored) : Type 0 where
   pub limit : ℕ
   pub calls : List Call
-  pub left : LeftBy calls (fresh limit).stored s
+  pub left : LeftBy calls (new_builder limit).stored s
 
 -- what stands for the tree of a call, and its ways; a type that an `impl` became has none of expressions, labels and bindings
-abbrev pub StandsFor : Store → SourceMap → Call → Ways
-StandsFor store source_map (of_constant e i) = OwnedBy i (StandsPart store source_map [] e i)
-StandsFor store source_map (of_path p r) = WholeWays store source_map [] p
-StandsFor store source_map (of_type at t i) = No
+abbrev pub CorrespondsTo : Store → SourceMap → Call → Mappings
+CorrespondsTo store source_map (of_constant e i) = OwnedBy i (CorrespondsPart store source_map [] e i)
+CorrespondsTo store source_map (of_path p r) = WholeMappings store source_map [] p
+CorrespondsTo store source_map (of_type at t i) = No
 
 -- in the order of the calls
-abbrev pub AllStand : Store → SourceMap → List Call → Ways
+abbrev pub AllStand : Store → SourceMap → List Call → Mappings
 AllStand store source_map [] = No
-AllStand store source_map (c ∷ cs) = AllStand store source_map cs & StandsFor store source_map c
+AllStand store source_map (c ∷ cs) = AllStand store source_map cs & CorrespondsTo store source_map c
 
 -- Store and source map hold what calls left, and nothing else. For the tree of each stands what is stored; each expression, each label and
 -- each binding is what a written one became, or is made up, and what owns a binding is what its way says. The source map leads from
@@ -57,10 +57,10 @@ pub record OfCalls (store : Store) (source_map : SourceMap) : Type 0 where
   pub store_is : store ≡ store_of last
   pub source_map_is : source_map ≡ map_of last
   pub collected : Collected last
-  pub ways : List Way
-  pub stand : AllStand store source_map collected.calls ways
-  pub covers : Covers ways 0 (length store.exprs)
-  pub covers_labels : CoversLabels ways 0 (length store.labels)
-  pub covers_bindings : CoversBindings ways 0 (length store.bindings)
-  pub owner_ways : OwnersAre store.binding_owners ways
-  pub leads : MapLeads source_map ways
+  pub mappings : List Mapping
+  pub stand : AllStand store source_map collected.calls mappings
+  pub covers : Covers mappings 0 (length store.exprs)
+  pub covers_labels : CoversLabels mappings 0 (length store.labels)
+  pub covers_bindings : CoversBindings mappings 0 (length store.bindings)
+  pub owner_mappings : OwnersAre store.binding_owners mappings
+  pub leads : MapLeads source_map mappings

@@ -2,10 +2,10 @@
 -- types and the trait of a refused path, or what stands in an `impl` that isn't allowed.
 use Rattle.std.specs.Prelude.{Bool, Option}
 use Rattle.hir_store.specs.declared.hir.CoroutineKind.{CoroutineKind}
-use Rattle.hir_env.specs.Answered.{Formals, OptionExpr, OptionPath, OptionType}
-use Rattle.hir_one_result.specs.Bodies.{grade_body}
-use Rattle.hir_steps.specs.Grades.{grade_expr_part, grade_part, grade_whole}
-use Rattle.hir_told.specs.StoredData.{StoredData, bodies_stored, stored_data}
+use Rattle.hir_env.specs.ResolvedTree.{Formals, OptionExpr, OptionPath, OptionType}
+use Rattle.thm_body_result.specs.Bodies.{grade_body}
+use Rattle.thm_logic.specs.Grades.{grade_expr_part, grade_part, grade_whole}
+use Rattle.thm_body_result.specs.StoredData.{StoredData, bodies_stored, stored_data}
 
 abbrev pub data_in : OptionExpr → StoredData
 data_in e = grade_expr_part stored_data e

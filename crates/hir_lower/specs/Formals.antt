@@ -10,17 +10,17 @@ use Rattle.hir_store.specs.declared.ids.DefWithBodyId.{DefWithBodyId}
 use Rattle.hir_store.specs.declared.ids.ExprId.{ExprId}
 use Rattle.hir_store.specs.declared.ids.DefWithBodyId.TheVariants as owner
 use Rattle.hir_store.specs.declared.diagnostics.AwaitLocation.TheVariants as location
-use Rattle.hir_env.specs.Spot.{Spot}
-use Rattle.hir_env.specs.declared.place.Place.{Place}
-use Rattle.hir_env.specs.Formals.{answered_formals, are_bare}
-use Rattle.hir_env.specs.Answered as tree
-use Rattle.hir_env.specs.Answered.{Formal, Formals, OptionExpr, SelfFormal}
-use Rattle.hir_lower_form.specs.Lowering.{Lowering, ◌>>=◌, owning, pure}
-use Rattle.hir_lower_form.specs.Preludes.{lower_handed}
-use Rattle.hir_one_result.specs.Formals.{in_function}
-pub use Rattle.hir_one_result.specs.Formals.{Given, InFunction, Received, each_formal, formals_read, lower_formal, lower_self}
-unfoldable pub use Rattle.hir_one_result.specs.Formals.{lower_formals}
-pub use Rattle.hir_lower_form.specs.Methods.{HasSelf}
+use Rattle.hir_env.specs.ResolveCtx.{ResolveCtx}
+use Rattle.hir_env.specs.declared.ctx.LowerCtx.{LowerCtx}
+use Rattle.hir_env.specs.Formals.{resolved_formals, are_bare}
+use Rattle.hir_env.specs.ResolvedTree as tree
+use Rattle.hir_env.specs.ResolvedTree.{Formal, Formals, OptionExpr, SelfFormal}
+use Rattle.hir_lower_builder.specs.Lowering.{Lowering, ◌>>=◌, owning, pure}
+use Rattle.hir_lower_builder.specs.Preludes.{lower_handed}
+use Rattle.thm_body_result.specs.Formals.{in_function}
+pub use Rattle.thm_body_result.specs.Formals.{Given, InFunction, Received, each_formal, formals_read, lower_formal, lower_self}
+unfoldable pub use Rattle.thm_body_result.specs.Formals.{lower_formals}
+pub use Rattle.hir_lower_builder.specs.Methods.{HasSelf}
 
 abbrev pub HasReceived : Stored → Received → Type 0
 HasReceived s r = HasSelf s r.0 × HasPats s r.1
@@ -60,13 +60,13 @@ formals_if true f = f
 formals_if false f = no_formals
 
 -- A parameter is read outside of the body, so an `await` in it stands in a constant.
-abbrev pub outside_place : Place → Place
+abbrev pub outside_place : LowerCtx → LowerCtx
 outside_place p = record p { await_location = Some location.Unknown }
 
-abbrev pub outside_the_body : Spot → Spot
+abbrev pub outside_the_body : ResolveCtx → ResolveCtx
 outside_the_body at = record at { place = outside_place at.place }
 
-abbrev pub item_formals : Spot → DefWithBodyId → Option AstParamList → Bool → Formals
+abbrev pub item_formals : ResolveCtx → DefWithBodyId → Option AstParamList → Bool → Formals
 item_formals at item ps has_body =
     let bare = are_bare (at.answers.container item) has_body in
-    formals_if (are_read (at.answers.skip item) item) (answered_formals (outside_the_body at) bare ps)
+    formals_if (are_read (at.answers.skip item) item) (resolved_formals (outside_the_body at) bare ps)

@@ -1,6 +1,6 @@
 -- What a lowered constant and a lowered body are, in words of meaning.
 use Rattle.std.specs.Prelude.{◌≡◌, ◌<◌, ◌≤◌, ◌⊎◌, ◌+◌, ℕ, Bool, true, false, List, [], ◌∷◌, ◌++◌, length, map, option_map, Option}
-use Rattle.std.specs.Prelude.{Some, None, IsPermutation, option_and_then, slice_get}
+use Rattle.std.specs.Prelude.{Some, None, option_and_then, slice_get}
 use Rattle.hir_base.specs.declared.node.AstPtr.{AstPtr}
 use Rattle.hir_syntax.specs.declared.ast.Expr.{Expr as AstExpr}
 use Rattle.hir_syntax.specs.declared.ast.Path.{Path as AstPath, out-Path}
@@ -8,7 +8,7 @@ use Rattle.hir_syntax.specs.declared.types.Type_.{Type_ as AstType_}
 use Rattle.hir_store.specs.Pointers.{Pointer}
 use Rattle.hir_store.specs.Stored.{Store, SourceMap, Stored, store_of, map_of}
 use Rattle.hir_store.specs.Arenas.{with_entry}
-use Rattle.hir_store.specs.Storing.{Extends, root_at, type_id}
+use Rattle.hir_store.specs.StoreSink.{Extends, root_at, type_id}
 use Rattle.hir_store.specs.declared.ids.TypeRefId.{TypeRefId}
 use Rattle.hir_store.specs.declared.hir.CoroutineKind.{CoroutineKind}
 use Rattle.hir_store.specs.declared.type_ref.TypeBound.{TypeBound}
@@ -27,49 +27,49 @@ use Rattle.hir_store.specs.declared.ids.ItemContainerId.TheVariants as container
 use Rattle.hir_store.specs.declared.diagnostics.MissingBodyItemKind.{MissingBodyItemKind}
 use Rattle.hir_store.specs.declared.diagnostics.MissingBodyItemKind.TheVariants as kind
 use Rattle.hir_store.specs.declared.diagnostics.ExpressionStoreDiagnostics.TheVariants.{MissingBody}
-use Rattle.hir_env.specs.Spot.{Spot}
-use Rattle.hir_env.specs.declared.place.ImplTrait.{ImplTrait}
-use Rattle.hir_env.specs.declared.place.ImplTrait.TheVariants as mode
-use Rattle.hir_lower_form.specs.Generics.{predicates_of, unnamed_param}
-use Rattle.hir_lower_form.specs.declared.generics.GenericLists.{GenericLists}
+use Rattle.hir_env.specs.ResolveCtx.{ResolveCtx}
+use Rattle.hir_env.specs.declared.ctx.ImplTrait.{ImplTrait}
+use Rattle.hir_env.specs.declared.ctx.ImplTrait.TheVariants as mode
+use Rattle.hir_lower_builder.specs.Generics.{predicates_of, unnamed_param}
+use Rattle.hir_lower_builder.specs.declared.generics.GenericLists.{GenericLists}
 use Rattle.hir_env.specs.Answering.{in_file}
-use Rattle.hir_env.specs.Answered as tree
-use Rattle.hir_env.specs.Answered.{Formals, OptionExpr, OptionPath, OptionType, SelfFormal}
-use Rattle.hir_env.specs.Whole.{answered_path, expr_part, type_part}
-use Rattle.hir_data.specs.Data.{path_names}
-use Rattle.hir_data.specs.Patterns.{written_pat}
-use Rattle.hir_data.specs.Preludes.{formal_patterns}
-use Rattle.hir_data.specs.Reading.{stored_pat, stored_path}
-use Rattle.hir_data.specs.Written.{written_path}
-use Rattle.hir_data.specs.Segments.{PlainTrait, Whole, first_trait, named_segments, segment_name}
-use Rattle.hir_data.specs.Tops.{Tops}
-use Rattle.hir_meaning.specs.Inner.{Inside, all_inners, all_of, path_bodies, path_inner_bodies, tops_bodies}
-use Rattle.hir_meaning.specs.Inner.{of_present as of_some}
-use Rattle.hir_meaning.specs.Same.{SameBodies, SameCoroutine, SameMeaning}
-use Rattle.hir_same_meaning.specs.Reached.{Spread, of_each, reached_to}
-use Rattle.hir_steps.specs.Keeps.{IsHanded, IsOfTwo, IsOneOf, Mapped, Paired, times_bound, times_labelled}
-use Rattle.hir_steps.specs.Calls.{Expansions}
-use Rattle.hir_one_result.specs.Blocks.{blocks_of_part, blocks_of_whole}
-use Rattle.hir_one_result.specs.Diagnostics.{Faults, part_diagnostics, whole_faults}
-use Rattle.hir_one_result.specs.Laws.{Grown, Reaches, Settled}
-use Rattle.hir_one_result.specs.Room.{size_part, whole_size}
-use Rattle.hir_one_result.specs.Size.{owned, placed}
-use Rattle.hir_one_result.specs.Leads.{OwnedBy, OwnersAre, Way}
-use Rattle.hir_one_result.specs.Stands.{StandsPart, WholeWays}
-use Rattle.hir_one_result.specs.Bodies.{grade_body}
-use Rattle.hir_told.specs.Expanded as told
-use Rattle.hir_told.specs.StoredData.{DataAdded}
-use Rattle.hir_steps.specs.Grades.{grade_expr_part, grade_part, grade_whole}
-use Rattle.hir_item_result.specs.Answers.{parameter_type}
-use Rattle.hir_param.specs.declared.Param.{Param}
+use Rattle.hir_env.specs.ResolvedTree as tree
+use Rattle.hir_env.specs.ResolvedTree.{Formals, OptionExpr, OptionPath, OptionType, SelfFormal}
+use Rattle.hir_env.specs.Whole.{resolved_path, expr_part, type_part}
+use Rattle.spec_data.specs.Data.{path_names}
+use Rattle.spec_data.specs.Patterns.{written_pat}
+use Rattle.spec_data.specs.Preludes.{formal_patterns}
+use Rattle.spec_data.specs.Reading.{stored_pat, stored_path}
+use Rattle.spec_data.specs.Written.{written_path}
+use Rattle.spec_data.specs.Segments.{PlainTrait, Whole, first_trait, named_segments, segment_name}
+use Rattle.spec_data.specs.Tops.{Tops}
+use Rattle.spec_semantics.specs.Inner.{Inside, all_inners, all_of, path_bodies, path_inner_bodies, tops_bodies}
+use Rattle.spec_semantics.specs.Inner.{of_present as of_some}
+use Rattle.spec_semantics.specs.Same.{SameBodies, SameCoroutine, SameMeaning}
+use Rattle.thm_semantics.specs.Reached.{Spread, of_each, reached_to}
+use Rattle.thm_logic.specs.Keeps.{IsHanded, IsOfTwo, IsOneOf, Mapped, Paired, times_bound, times_labelled}
+use Rattle.thm_logic.specs.Calls.{Expansions}
+use Rattle.thm_body_result.specs.Blocks.{blocks_of_part, blocks_of_whole}
+use Rattle.thm_body_result.specs.Diagnostics.{Faults, part_diagnostics, whole_faults}
+use Rattle.thm_body_result.specs.Theorems.{Grown, Reaches, Settled}
+use Rattle.thm_body_result.specs.Room.{size_part, whole_size}
+use Rattle.thm_body_result.specs.Size.{owned, placed_owners}
+use Rattle.thm_body_result.specs.Leads.{OwnedBy, OwnersAre, Mapping}
+use Rattle.thm_body_result.specs.Corresponds.{CorrespondsPart, WholeMappings}
+use Rattle.thm_body_result.specs.Bodies.{grade_body}
+use Rattle.thm_body_result.specs.Expanded as emitted
+use Rattle.thm_body_result.specs.StoredData.{DataAdded}
+use Rattle.thm_logic.specs.Grades.{grade_expr_part, grade_part, grade_whole}
+use Rattle.thm_item_result.specs.Answers.{parameter_type}
+use Rattle.hir_store.specs.declared.param.Param.{Param}
 use Rattle.hir_lower.specs.Data.{data_in, data_in_path}
 use Rattle.hir_lower.specs.Formals.{formals_read}
-use Rattle.hir_type_result.specs.Unrun.{unrun_in, unrun_in_path, unrun_in_pats}
-use Rattle.hir_type_result.specs.Named.{TypesSpread, of_exprs, of_pats, of_pats_alone, of_types_alone}
-use Rattle.hir_type_result.specs.Pats.{BindingsCame, PatsSpread, of_types, pats_reached}
-use Rattle.hir_type_result.specs.Roots.{RootsOf}
-use Rattle.hir_type_result.specs.Reached.{of_path, of_present, types_reached}
-use Rattle.hir_type_result.specs.Reached.{of_each as of_all}
+use Rattle.thm_type_result.specs.Unrun.{unrun_in, unrun_in_path, unrun_in_pats}
+use Rattle.thm_type_result.specs.Named.{TypesSpread, of_exprs, of_pats, of_pats_alone, of_types_alone}
+use Rattle.thm_type_result.specs.Pats.{BindingsCame, PatsSpread, of_types, pats_reached}
+use Rattle.thm_type_result.specs.Roots.{RootsOf}
+use Rattle.thm_type_result.specs.Reached.{of_path, of_present, types_reached}
+use Rattle.thm_type_result.specs.Reached.{of_each as of_all}
 
 -- What is so of a root in a later store. Its expression does what the tree does; it stands for the tree, and owns each binding that
 -- nothing in it owns; each expression that came with it is what a written one became, or a missing one for an absent or disabled part or
@@ -81,44 +81,42 @@ use Rattle.hir_type_result.specs.Reached.{of_each as of_all}
 -- and each pattern that the expressions and types do.
 pub record Lives (old new later : Stored) (i : ExprId) (e : OptionExpr) : Type 0 where
   pub same : SameMeaning (store_of later) (map_of later) i e
-  pub ways : List Way
-  pub stands : OwnedBy i (StandsPart (store_of later) (map_of later) [] e i) ways
-  pub reaches : Reaches old new ways
-  pub owner_ways : OwnersAre new.bindings.owners ways
+  pub mappings : List Mapping
+  pub corresponds : OwnedBy i (CorrespondsPart (store_of later) (map_of later) [] e i) mappings
+  pub reaches : Reaches old new mappings
+  pub owner_mappings : OwnersAre new.bindings.owners mappings
   pub reached_once : (depth : ℕ) → length later.exprs.entries ≤ depth
       → Spread (length old.exprs.entries) (length new.exprs.entries)
       (of_each (reached_to (store_of later) depth) (i ∷ unrun_in (store_of later) i))
   pub types_reached_once : TypesSpread old new later (λ f. [])
   pub pats_reached_once : PatsSpread old new later []
 
--- the calls of macros that are entered, each behind what else was expanded for it, in the order of lowering
+-- the macro calls that are entered, each behind what else was expanded for it, in the order of lowering
 abbrev pub expanded_in : OptionExpr → Expansions
-expanded_in e = grade_expr_part told.expansions e
+expanded_in e = grade_expr_part emitted.expansions e
 
 abbrev pub expanded_in_path : OptionPath → Expansions
-expanded_in_path p = grade_whole told.expansions p
+expanded_in_path p = grade_whole emitted.expansions p
 
 abbrev pub expanded_in_type : OptionType → Expansions
-expanded_in_type t = grade_part told.expansions t
+expanded_in_type t = grade_part emitted.expansions t
 
 abbrev pub expanded_in_body : Option CoroutineKind → Bool → Formals → OptionExpr → Expansions
-expanded_in_body kind skipped f e = grade_body told.expansions told.bodies_expanded kind skipped f e
+expanded_in_body kind skipped f e = grade_body emitted.expansions emitted.bodies_expanded kind skipped f e
 
 -- What lowering a root leaves. It is the last of the recorded roots, to which all belongs that was stored since the one before:
 -- as many expressions, labels and bindings as the tree becomes, and patterns, types and lifetimes from just those of its nodes that
 -- become one. The patterns that came make bindings that came, each owned by the innermost closure, coroutine, `const` block, length or
 -- argument around it, or, in none of these, by the root, as `lives` says, and by its number, as `owners` does. Behind the faults,
--- the blocks and the calls of macros that were noted before come those of the tree.
+-- the blocks and the macro calls that were noted before come those of the tree, in the order of lowering.
 pub record Rooted (old new : Stored) (i : ExprId) (e : OptionExpr) : Type 0 where
   pub lives : (later : Stored) → Extends new later → Settled new later → Lives old new later i e
   pub grown : Grown (owned (size_part e)) old new
   pub stored_data : DataAdded (data_in e) old new
-  pub owners : new.bindings.owners ≡ old.bindings.owners ++ placed (length old.exprs.entries) (owned (size_part e)).owners
+  pub owners : new.bindings.owners ≡ old.bindings.owners ++ placed_owners (length old.exprs.entries) (owned (size_part e)).owners
   pub roots : new.roots ≡ old.roots ++ root_at (store_of new) i ∷ []
   pub bindings_came : BindingsCame old new
-  pub more : Faults
-  pub faults : new.diagnostics ≡ old.diagnostics ++ more
-  pub permuted : IsPermutation (part_diagnostics [] e) more
+  pub faults : new.diagnostics ≡ old.diagnostics ++ part_diagnostics [] e
   pub blocks : new.block_scopes ≡ old.block_scopes ++ blocks_of_part e
   pub expansions : new.expansions ≡ old.expansions ++ expanded_in e
   pub paired : Paired new
@@ -157,10 +155,10 @@ MadeOnce store formals = (k : ℕ) → (times_bound k store.bindings + times_lab
 -- paths and types
 
 -- with all that the environment says of them
-abbrev pub whole_path : Spot → AstPath → OptionPath
-whole_path at x = tree.some_path (answered_path at x)
+abbrev pub whole_path : ResolveCtx → AstPath → OptionPath
+whole_path at x = tree.some_path (resolved_path at x)
 
-abbrev pub whole_type : Spot → Option AstType_ → OptionType
+abbrev pub whole_type : ResolveCtx → Option AstType_ → OptionType
 whole_type at t = type_part at t
 
 -- what is read back of a stored path in each later store
@@ -222,25 +220,23 @@ RoomForImpl old (Some l) = RoomForType old × (length l.type_or_consts < 4294967
 
 -- What stands in a later store for the constants of a lowered path: as for the tree of a root.
 pub record ConstantsLive (old new later : Stored) (p : OptionPath) : Type 0 where
-  pub ways : List Way
-  pub stands : WholeWays (store_of later) (map_of later) [] p ways
-  pub reaches : Reaches old new ways
-  pub owner_ways : OwnersAre new.bindings.owners ways
+  pub mappings : List Mapping
+  pub corresponds : WholeMappings (store_of later) (map_of later) [] p mappings
+  pub reaches : Reaches old new mappings
+  pub owner_mappings : OwnersAre new.bindings.owners mappings
 
 -- What lowering a path to r leaves: types and lifetimes from just those of its nodes that become one, and its constants. Those are
--- roots, also where r is none; behind the faults, the blocks and the calls of macros that were noted before come theirs. In each later
--- store each body inside r does what the written one does; r and the expressions and patterns that came reach each type in one way only,
--- and none that was stored before; so do the expressions and types that came reach each pattern. The patterns that came make bindings
--- that came, each owned by the innermost closure, coroutine, `const` block, length or argument around it, as `lives` says, and by its
--- number, as `owners` does.
+-- roots, also where r is none; behind the faults, the blocks and the macro calls that were noted before come theirs, in the order of
+-- lowering. In each later store each body inside r does what the written one does; r and the expressions and patterns that came reach
+-- each type in one way only, and none that was stored before; so do the expressions and types that came reach each pattern. The patterns
+-- that came make bindings that came, each owned by the innermost closure, coroutine, `const` block, length or argument around it, as
+-- `lives` says, and by its number, as `owners` does.
 pub record PathRooted (old new : Stored) (r : Option Path) (p : OptionPath) : Type 0 where
   pub inner : (later : Stored) → Extends new later
       → SameBodies (store_of later) (map_of later) (of_some (path_inner_bodies (store_of later)) r) (path_bodies p)
   pub lives : (later : Stored) → Extends new later → Settled new later → ConstantsLive old new later p
   pub roots : (later : Stored) → Extends new later → RootsOf [] old new later (whole_size p).inner
-  pub more : Faults
-  pub faults : new.diagnostics ≡ old.diagnostics ++ more
-  pub permuted : IsPermutation (whole_faults [] p) more
+  pub faults : new.diagnostics ≡ old.diagnostics ++ whole_faults [] p
   pub blocks : new.block_scopes ≡ old.block_scopes ++ blocks_of_whole p
   pub expansions : new.expansions ≡ old.expansions ++ expanded_in_path p
   pub types_reached_once : (later : Stored) → Extends new later → TypesSpread old new later (λ f. of_present (of_path f) r)
@@ -251,7 +247,7 @@ pub record PathRooted (old new : Stored) (r : Option Path) (p : OptionPath) : Ty
   pub bindings_came : BindingsCame old new
   pub grown : Grown (whole_size p) old new
   pub stored_data : DataAdded (data_in_path p) old new
-  pub owners : new.bindings.owners ≡ old.bindings.owners ++ placed (length old.exprs.entries) (whole_size p).owners
+  pub owners : new.bindings.owners ≡ old.bindings.owners ++ placed_owners (length old.exprs.entries) (whole_size p).owners
   pub paired : Paired new
   pub mapped : Mapped old → Mapped new
 
@@ -278,7 +274,7 @@ kind_unless_skipped true kind = None
 kind_unless_skipped false kind = kind
 
 -- the body that an item has: of a skipped item it is absent
-abbrev pub body_read : Spot → DefWithBodyId → Option AstExpr → OptionExpr
+abbrev pub body_read : ResolveCtx → DefWithBodyId → Option AstExpr → OptionExpr
 body_read at owner body = unless_skipped (at.answers.skip owner) (expr_part at body)
 
 -- a body that is missing where it must be there
@@ -291,7 +287,7 @@ abbrev pub owed_faults : Bool → Pointer → Option MissingBodyItemKind → Opt
 owed_faults true node k e = []
 owed_faults false node k e = missing_fault node (body_fault k e)
 
-abbrev pub body_owes : Spot → DefWithBodyId → AstPtr → Option AstExpr → Faults
+abbrev pub body_owes : ResolveCtx → DefWithBodyId → AstPtr → Option AstExpr → Faults
 body_owes at owner node body =
     owed_faults (at.answers.skip owner) (in_file at.place node) (required_body owner (at.answers.container owner)) (expr_part at body)
 

@@ -1,10 +1,11 @@
 -- What the entry functions make of a tree.
-use Rattle.std.specs.Prelude.{◌≡◌, ℕ, Bool, true, false, List, [], ◌∷◌, is_some, map, option_map, Option, Some, None, Ok, Err}
+use Rattle.std.specs.Prelude.{◌≡◌, ℕ, Bool, true, false, List, [], ◌∷◌, is_some, map, option_map, Option, Some, None, Result, Ok, Err}
+use Rattle.std.specs.Prelude.{IfOk, IsErrOf}
 use Rattle.hir_store.specs.Range.{HasExpr}
 use Rattle.hir_store.specs.Stored.{Store, SourceMap, Stored, store_of, map_of}
-use Rattle.hir_store.specs.declared.fault.StoreFault.TheVariants.{Full}
-use Rattle.hir_lower_form.specs.Builder.{Builder}
-pub use Rattle.hir_lower_form.specs.Builder.{fresh}
+use Rattle.hir_store.specs.declared.error.StoreError.TheVariants.{Full}
+use Rattle.hir_lower_builder.specs.Builder.{Builder}
+pub use Rattle.hir_lower_builder.specs.Builder.{new_builder}
 use Rattle.hir_store.specs.Pointers.{Pointer}
 use Rattle.hir_store.specs.declared.ids.DefWithBodyId.{DefWithBodyId}
 use Rattle.hir_store.specs.declared.ids.DefWithBodyId.TheVariants as owner
@@ -18,26 +19,29 @@ use Rattle.hir_syntax.specs.declared.ast.Expr.{Expr as AstExpr}
 use Rattle.hir_syntax.specs.declared.params.ParamList.{ParamList as AstParamList}
 use Rattle.hir_store.specs.declared.ids.ExprId.{ExprId}
 use Rattle.hir_store.specs.declared.ids.ModuleId.{ModuleId}
-use Rattle.hir_env.specs.declared.place.Place.{Place}
-use Rattle.hir_env.specs.declared.place.ImplTrait.{ImplTrait}
-use Rattle.hir_env.specs.declared.place.ImplTrait.TheVariants as becomes
-use Rattle.hir_env.specs.declared.place.LifetimeScope.TheVariants as scope
-use Rattle.hir_env.specs.declared.place.LoweringMode.{LoweringMode}
-use Rattle.hir_env.specs.declared.place.LoweringMode.TheVariants.{Analysis}
+use Rattle.hir_env.specs.declared.ctx.LowerCtx.{LowerCtx}
+use Rattle.hir_env.specs.declared.ctx.ImplTrait.{ImplTrait}
+use Rattle.hir_env.specs.declared.ctx.ImplTrait.TheVariants as becomes
+use Rattle.hir_env.specs.declared.ctx.LifetimeScope.TheVariants as scope
+use Rattle.hir_env.specs.declared.ctx.LoweringMode.{LoweringMode}
+use Rattle.hir_env.specs.declared.ctx.LoweringMode.TheVariants.{Analysis}
 use Rattle.hir_env.specs.Answers.{Answers}
-use Rattle.hir_env.specs.Spot.{Spot}
+use Rattle.hir_env.specs.ResolveCtx.{ResolveCtx}
 use Rattle.hir_env.specs.Answering.{in_file}
 use Rattle.hir_env.specs.Whole.{expr_part}
-use Rattle.hir_env.specs.Answered as tree
-use Rattle.hir_env.specs.Answered.{Formals, OptionExpr}
-use Rattle.hir_lower_form.specs.Lowering.{Lowering, SomeEnd, ◌>>=◌, ◌>>◌, pure, bindings_end, close_labels, own, report, record_root}
-use Rattle.hir_lower_form.specs.Lowering.{enter_root, outside_root}
-use Rattle.hir_lower_form.specs.Lower.{ExprSteps, lower_part}
-use Rattle.hir_lower_handlers.specs.Spots.{spot_at}
+use Rattle.hir_env.specs.ResolvedTree as tree
+use Rattle.hir_env.specs.ResolvedTree.{Formals, OptionExpr}
+use Rattle.hir_lower_builder.specs.Lowering.{Lowering, SomeEnd, ◌>>=◌, ◌>>◌, pure, bindings_end, close_labels, own, report, record_root}
+use Rattle.hir_lower_builder.specs.Lowering.{enter_root, outside_root}
+use Rattle.hir_lower_builder.specs.Lower.{ExprSteps, lower_part}
+use Rattle.hir_lower_callbacks.specs.ResolveCtxs.{rctx_at}
 use Rattle.hir_lower.specs.declared.body.Body.{Body}
-use Rattle.hir_param.specs.declared.Param.{Param}
+use Rattle.hir_lower.specs.declared.body.BodySourceMap.{BodySourceMap}
+use Rattle.hir_lower.specs.declared.error.LowerError.{LowerError}
+use Rattle.hir_lower.specs.declared.error.LowerError.TheVariants as error
+use Rattle.hir_store.specs.declared.param.Param.{Param}
 use Rattle.hir_store.specs.declared.hir.CoroutineKind.{CoroutineKind}
-use Rattle.hir_one_result.specs.Formals.{lower_body}
+use Rattle.thm_body_result.specs.Formals.{lower_body}
 use Rattle.hir_lower.specs.Formals.{Given, HasGiven, Received, item_formals}
 use Rattle.hir_lower.specs.Means.{required_body, body_fault}
 
@@ -83,7 +87,7 @@ body_of kind false at k formals e = do
 pub record StoresFromNothing {A : Type 0} (p : Lowering A) (limit : ℕ) (store : Store) (source_map : SourceMap) : Type 0 where
   pub answer : A
   pub builder : Builder
-  pub done : p (fresh limit) ≡ (Ok answer, builder)
+  pub done : p (new_builder limit) ≡ (Ok answer, builder)
   pub store_is : store ≡ store_of builder.stored
   pub source_map_is : source_map ≡ map_of builder.stored
 
@@ -115,18 +119,24 @@ pub record GivenFromNothing (p : Lowering (Given × ExprId)) (limit : ℕ) (b : 
   pub given : Given
   pub root : ExprId
   pub builder : Builder
-  pub done : p (fresh limit) ≡ (Ok (given, root), builder)
+  pub done : p (new_builder limit) ≡ (Ok (given, root), builder)
   pub receiver : b.self_param ≡ both_if_present given.0.0 given.1.0
   pub params : b.params ≡ both given.0.1 given.1.1
 
 -- the steps find no room in an arena of this limit, or no number more in a counter
 pub record RefusedAtEnd {A : Type 0} (p : Lowering A) (limit : ℕ) : Type 0 where
   pub builder : Builder
-  pub refused : p (fresh limit) ≡ (Err Full, builder)
+  pub refused : p (new_builder limit) ≡ (Err Full, builder)
   pub at_end : SomeEnd builder
 
+-- What the steps of a body leave, from nothing: what is stored, the parameters, or that there was no room.
+pub record FromSteps (p : Lowering (Given × ExprId)) (limit : ℕ) (answer : Result (Body × BodySourceMap) LowerError) : Type 0 where
+  pub stores : IfOk answer (λ r. StoresFromNothing p limit r.0.store r.1.store)
+  pub given : IfOk answer (λ r. GivenFromNothing p limit r.0)
+  pub full : IsErrOf answer error.Full → RefusedAtEnd p limit
+
 -- the body of an item, which may be one of a function that is a coroutine
-abbrev pub item_of : Option CoroutineKind → Spot → DefWithBodyId → AstPtr → Option AstParamList → Option AstExpr
+abbrev pub item_of : Option CoroutineKind → ResolveCtx → DefWithBodyId → AstPtr → Option AstParamList → Option AstExpr
     → Lowering (Given × ExprId)
 item_of kind at owner node params body =
     let required = required_body owner (at.answers.container owner) in
@@ -146,10 +156,10 @@ await_location true item = None
 await_location false item = Some (item_location item)
 
 -- where the body of an item is read, which may be async
-abbrev pub body_spot : Answers → DefWithBodyId → HirFileId → ModuleId → Bool → Spot
-body_spot env item file inside is_async =
+abbrev pub body_rctx : Answers → DefWithBodyId → HirFileId → ModuleId → Bool → ResolveCtx
+body_rctx env item file inside is_async =
     let awaits_in = await_location is_async item in
-    spot_at env (record {
+    rctx_at env (record {
       file_id = file;
       module_id = inside;
       mode = Analysis;
@@ -161,7 +171,7 @@ body_spot env item file inside is_async =
     })
 
 -- where a collector reads, outside of a body
-abbrev pub outside_body : Answers → HirFileId → ModuleId → LoweringMode → Place
+abbrev pub outside_body : Answers → HirFileId → ModuleId → LoweringMode → LowerCtx
 outside_body env file inside mode = record {
   file_id = file;
   module_id = inside;
@@ -174,16 +184,16 @@ outside_body env file inside mode = record {
 }
 
 -- the same place, where an `impl` becomes this
-abbrev pub becoming : Place → ImplTrait → Place
+abbrev pub becoming : LowerCtx → ImplTrait → LowerCtx
 becoming p mode = record p { impl_trait = mode }
 
 -- where a type that stands alone is read: an `impl` stays one
-abbrev pub type_spot : Answers → HirFileId → ModuleId → Spot
-type_spot env file inside = spot_at env (becoming (outside_body env file inside Analysis) becomes.Opaque)
+abbrev pub type_rctx : Answers → HirFileId → ModuleId → ResolveCtx
+type_rctx env file inside = rctx_at env (becoming (outside_body env file inside Analysis) becomes.Opaque)
 
 -- what the steps answer and store, from nothing
 pub record AnswersFromNothing {A : Type 0} (p : Lowering A) (limit : ℕ) (answer : A) (store : Store) (source_map : SourceMap) : Type 0 where
   pub builder : Builder
-  pub done : p (fresh limit) ≡ (Ok answer, builder)
+  pub done : p (new_builder limit) ≡ (Ok answer, builder)
   pub store_is : store ≡ store_of builder.stored
   pub source_map_is : source_map ≡ map_of builder.stored

@@ -3,23 +3,20 @@
 ghost use Rattle.std.specs.Prelude.{◌≡◌, ◌≢◌, Bool, false, is_some, IfOk, IsErrOf, option_copied, option_map, slice_get};
 ghost use Rattle.hir_store.specs.Range.{InRange};
 ghost use Rattle.hir_store.specs.Stored.{map_of, store_of};
-ghost use Rattle.hir_env.specs.Answered as tree;
+ghost use Rattle.hir_env.specs.ResolvedTree as tree;
 ghost use Rattle.hir_env.specs.Answering.{coroutine_kind};
-ghost use Rattle.hir_env.specs.Formals.{answered_formals};
+ghost use Rattle.hir_env.specs.Formals.{resolved_formals};
 ghost use Rattle.hir_env.specs.Whole.{expr_part};
-ghost use Rattle.hir_lower_form.specs.Lowering.{Lowers};
-ghost use Rattle.hir_one_result.specs.Formals.{lower_body, plain_body};
-ghost use Rattle.hir_one_result.specs.OneResult.{OneResult};
-ghost use Rattle.hir_one_result.specs.Room.{body_size};
-ghost use Rattle.hir_item_result.specs.Exceeding.{Exceeds, FitsIn};
-ghost use Rattle.hir_told.specs.StoredData.{ReadsAs};
-ghost use Rattle.hir_lower_handlers.specs.Spots.{spot_at};
-ghost use Rattle.hir_lower.specs.Data.{data_in_body};
-ghost use Rattle.hir_lower.specs.Formals.{are_read, formals_read, item_formals, outside_the_body, self_source};
-ghost use Rattle.hir_lower.specs.Means.{HasBody, HasParams, MadeOnce, body_owes, body_read, expanded_in_body, kind_unless_skipped};
-ghost use Rattle.hir_lower.specs.Means.{required_body};
+ghost use Rattle.hir_lower_builder.specs.Lowering.{Lowers};
+ghost use Rattle.thm_body_result.specs.Formals.{lower_body, plain_body};
+ghost use Rattle.hir_lower_callbacks.specs.ResolveCtxs.{rctx_at};
+ghost use Rattle.hir_lower.specs.Clauses.{BodyExceeds, BodyFits, HasBodyParams, HasExpansions, HasSameMeaning, HasSelfSource};
+ghost use Rattle.hir_lower.specs.Clauses.{HasStoredData, IsOneResult};
+ghost use Rattle.hir_lower.specs.Formals.{are_read, item_formals, outside_the_body, self_source};
+ghost use Rattle.hir_lower.specs.Inputs.{body_input};
+ghost use Rattle.hir_lower.specs.Means.{MadeOnce, required_body};
 ghost use Rattle.hir_lower.specs.Roots.{GivenFromNothing, HasGivenBody, RefusedAtEnd, StoresFromNothing, await_location, behind, body_of};
-ghost use Rattle.hir_lower.specs.Roots.{body_spot, both, both_if_present, formals_of, given_of, item_location, item_of};
+ghost use Rattle.hir_lower.specs.Roots.{FromSteps, body_rctx, both, both_if_present, formals_of, item_location, item_of};
 
 use crate::collector::collect_expr_opt;
 use crate::coroutine_functions::{around, coroutine_form};
@@ -27,14 +24,14 @@ use crate::error::LowerError;
 use crate::formals::{Given, formals_form, must_be_bare, self_node};
 use hir_base::Seq;
 use hir_base::node::{AstPtr, HirFileId, InFile};
+use hir_env::ctx::{ImplTrait, LifetimeScope, LowerCtx, LoweringMode};
 use hir_env::env::LowerEnv;
-use hir_env::place::{ImplTrait, LifetimeScope, LoweringMode, Place};
-use hir_lower_form::builder::StoredBody;
-use hir_param::Param;
+use hir_lower_builder::builder::StoredBody;
 use hir_store::diagnostics::{AwaitLocation, ExpressionStoreDiagnostics, MissingBodyItemKind};
-use hir_store::fault::StoreFault;
+use hir_store::error::StoreError;
 use hir_store::hir::CoroutineKind;
 use hir_store::ids::{BindingId, DefWithBodyId, ExprId, ItemContainerId, ModuleId, PatId};
+use hir_store::param::Param;
 use hir_store::source_map::ExpressionStoreSourceMap;
 use hir_store::store::ExpressionStore;
 use hir_syntax::ast;
@@ -163,19 +160,19 @@ fn copied(mut left: &[PatId], alloc: Global) -> Result<Seq<PatId>, AllocError>
 }
 
 /// Lowers parameters, and behind them a body that is no coroutine.
-#[tactic(auto, unfolding(hir_one_result::specs::Formals::plain_body))]
+#[tactic(auto, unfolding(thm_body_result::specs::Formals::plain_body))]
 fn plain_form<E: LowerEnv>(
     alloc: Global,
     env: &E,
-    place: Place,
+    place: LowerCtx,
     state: &mut StoredBody,
     skipped: bool,
     bare: bool,
     params: Option<&ast::ParamList>,
     body: Option<&ast::Expr>,
-) -> Result<(Given, ExprId), StoreFault>
-    ensures { let at = spot_at (E.answers env.now) place in
-        let formals = answered_formals (outside_the_body at) bare (option_copied params.entry) in
+) -> Result<(Given, ExprId), StoreError>
+    ensures { let at = rctx_at (E.answers env.now) place in
+        let formals = resolved_formals (outside_the_body at) bare (option_copied params.entry) in
         let read = expr_part at (option_copied body.entry) in
         Lowers HasGivenBody (plain_body skipped formals read) state.old result state.new }
 {
@@ -189,16 +186,16 @@ fn plain_form<E: LowerEnv>(
 fn body_form<E: LowerEnv>(
     alloc: Global,
     env: &E,
-    place: Place,
+    place: LowerCtx,
     state: &mut StoredBody,
     kind: Option<CoroutineKind>,
     skipped: bool,
     bare: bool,
     params: Option<&ast::ParamList>,
     body: Option<&ast::Expr>,
-) -> Result<(Given, ExprId), StoreFault>
-    ensures { let at = spot_at (E.answers env.now) place in
-        let formals = answered_formals (outside_the_body at) bare (option_copied params.entry) in
+) -> Result<(Given, ExprId), StoreError>
+    ensures { let at = rctx_at (E.answers env.now) place in
+        let formals = resolved_formals (outside_the_body at) bare (option_copied params.entry) in
         let read = expr_part at (option_copied body.entry) in
         Lowers HasGivenBody (lower_body kind skipped formals read) state.old result state.new }
 {
@@ -215,16 +212,16 @@ fn body_form<E: LowerEnv>(
 fn behind_formals<E: LowerEnv>(
     alloc: Global,
     env: &E,
-    place: Place,
+    place: LowerCtx,
     state: &mut StoredBody,
     kind: Option<CoroutineKind>,
     skipped: bool,
     bare: bool,
     params: Option<&ast::ParamList>,
     body: Option<&ast::Expr>,
-) -> Result<(Given, ExprId), StoreFault>
-    ensures { let at = spot_at (E.answers env.now) place in
-        let formals = answered_formals (outside_the_body at) bare (option_copied params.entry) in
+) -> Result<(Given, ExprId), StoreError>
+    ensures { let at = rctx_at (E.answers env.now) place in
+        let formals = resolved_formals (outside_the_body at) bare (option_copied params.entry) in
         let read = expr_part at (option_copied body.entry) in
         Lowers HasGivenBody (behind (lower_body kind skipped formals read)) state.old result state.new }
 {
@@ -241,16 +238,16 @@ fn behind_formals<E: LowerEnv>(
 fn missing_item<E: LowerEnv>(
     alloc: Global,
     env: &E,
-    place: Place,
+    place: LowerCtx,
     state: &mut StoredBody,
     kind: Option<CoroutineKind>,
     bare: bool,
     node: InFile<AstPtr>,
     required: Option<MissingBodyItemKind>,
     params: Option<&ast::ParamList>,
-) -> Result<(Given, ExprId), StoreFault>
-    ensures { let at = spot_at (E.answers env.now) place in
-        let formals = answered_formals (outside_the_body at) bare (option_copied params.entry) in
+) -> Result<(Given, ExprId), StoreError>
+    ensures { let at = rctx_at (E.answers env.now) place in
+        let formals = resolved_formals (outside_the_body at) bare (option_copied params.entry) in
         Lowers HasGivenBody (body_of kind false node required formals tree.no_expr) state.old result state.new }
 {
     if let Some(kind) = required {
@@ -264,7 +261,7 @@ fn missing_item<E: LowerEnv>(
 fn kept_item<E: LowerEnv>(
     alloc: Global,
     env: &E,
-    place: Place,
+    place: LowerCtx,
     state: &mut StoredBody,
     kind: Option<CoroutineKind>,
     bare: bool,
@@ -272,9 +269,9 @@ fn kept_item<E: LowerEnv>(
     required: Option<MissingBodyItemKind>,
     params: Option<&ast::ParamList>,
     body: Option<&ast::Expr>,
-) -> Result<(Given, ExprId), StoreFault>
-    ensures { let at = spot_at (E.answers env.now) place in
-        let formals = answered_formals (outside_the_body at) bare (option_copied params.entry) in
+) -> Result<(Given, ExprId), StoreError>
+    ensures { let at = rctx_at (E.answers env.now) place in
+        let formals = resolved_formals (outside_the_body at) bare (option_copied params.entry) in
         let read = expr_part at (option_copied body.entry) in
         Lowers HasGivenBody (body_of kind false node required formals read) state.old result state.new }
 {
@@ -290,15 +287,15 @@ fn kept_item<E: LowerEnv>(
 fn lower_item<E: LowerEnv>(
     alloc: Global,
     env: &E,
-    place: Place,
+    place: LowerCtx,
     state: &mut StoredBody,
     kind: Option<CoroutineKind>,
     owner: DefWithBodyId,
     node: AstPtr,
     params: Option<&ast::ParamList>,
     body: Option<&ast::Expr>,
-) -> Result<(Given, ExprId), StoreFault>
-    ensures { let at = spot_at (E.answers env.now) place in
+) -> Result<(Given, ExprId), StoreError>
+    ensures { let at = rctx_at (E.answers env.now) place in
         let item = item_of kind at owner node (option_copied params.entry) (option_copied body.entry) in
         Lowers HasGivenBody item state.old result state.new }
 {
@@ -321,11 +318,11 @@ fn lower_item<E: LowerEnv>(
 /// The node of the `self` that the item's body has.
 fn item_self<E: LowerEnv>(
     env: &E,
-    place: Place,
+    place: LowerCtx,
     owner: DefWithBodyId,
     params: Option<&ast::ParamList>,
 ) -> Option<InFile<AstPtr>>
-    ensures { (has_body : Bool) → let at = spot_at (E.answers env.now) place in
+    ensures { (has_body : Bool) → let at = rctx_at (E.answers env.now) place in
         result ≡ self_source (item_formals at owner (option_copied params.entry) has_body).receiver }
 {
     if env.skip(owner) || is_function(owner) {
@@ -419,25 +416,25 @@ fn body_steps<E: LowerEnv>(
     is_async_fn: bool,
     is_gen_fn: bool,
 ) -> Result<(Body, BodySourceMap), LowerError>
-    ensures stores { let at = body_spot (E.answers db.now) owner current_file_id inside is_async_fn in
+    ensures stores { let at = body_rctx (E.answers db.now) owner current_file_id inside is_async_fn in
         let kind = coroutine_kind is_async_fn is_gen_fn in
         let item = item_of kind at owner syntax_node (option_copied params.entry) (option_copied body.entry) in
         IfOk result (λ r. StoresFromNothing item 4294967295 r.0.store r.1.store) }
-    ensures given { let at = body_spot (E.answers db.now) owner current_file_id inside is_async_fn in
+    ensures given { let at = body_rctx (E.answers db.now) owner current_file_id inside is_async_fn in
         let kind = coroutine_kind is_async_fn is_gen_fn in
         let item = item_of kind at owner syntax_node (option_copied params.entry) (option_copied body.entry) in
         IfOk result (λ r. GivenFromNothing item 4294967295 r.0) }
-    ensures self_source { let at = body_spot (E.answers db.now) owner current_file_id inside is_async_fn in
+    ensures self_source { let at = body_rctx (E.answers db.now) owner current_file_id inside is_async_fn in
         let formals = item_formals at owner (option_copied params.entry) (is_some (option_copied body.entry)) in
         IfOk result (λ r. r.1.self_param ≡ self_source formals.receiver) }
     ensures in_range { IfOk result (λ r. InRange r.0.store r.1.store) }
-    ensures full { let at = body_spot (E.answers db.now) owner current_file_id inside is_async_fn in
+    ensures full { let at = body_rctx (E.answers db.now) owner current_file_id inside is_async_fn in
         let kind = coroutine_kind is_async_fn is_gen_fn in
         let item = item_of kind at owner syntax_node (option_copied params.entry) (option_copied body.entry) in
         IsErrOf result LowerError.Full → RefusedAtEnd item 4294967295 }
     ensures own { result ≢ Err LowerError.Failed }
 {
-    let place = Place {
+    let place = LowerCtx {
         file_id: current_file_id,
         module_id: inside,
         mode: LoweringMode::Analysis,
@@ -448,7 +445,7 @@ fn body_steps<E: LowerEnv>(
         left: db.expansion_limit(),
     };
     let kind = coroutine_kind_of(is_async_fn, is_gen_fn);
-    let mut state = StoredBody::new(alloc, u32::MAX);
+    let mut state = StoredBody::new(alloc, u32::MAX, db.hash_key());
     match lower_item(
         alloc,
         db,
@@ -474,34 +471,22 @@ fn body_steps<E: LowerEnv>(
     }
 }
 
-/// Lowers the body of an item (upstream's function of this name). With `is_async_fn` or `is_gen_fn` it is the body of such a
-/// function, and so a coroutine.
+/// Lowers the body of an item and its parameters (upstream's function of this name).
 ///
-/// The stored body does what the written one does, for every answerer and every number of turns that a loop may take, and so does each body
-/// inside it or inside the pattern of a parameter. That of a function with one of the flags makes its coroutine, and is the first of these
-/// bodies inside: it begins with a `let` of each parameter, `self` first, and then does what the written body does. Each expression that
-/// one of these reaches, or a literal or a side of a range in a pattern is, is reached in one way only; so is each type that the
-/// expressions and patterns reach, and each pattern that the parameters, as the outside hands them in, the expressions and types do. Store,
-/// source map and diagnostics are one result of the parameters, the flags and the tree: what is stored stands for them and no more is
-/// stored, each expression and pattern with its source, all in the range of the one root; the definition of a macro stands among the
-/// statements of its block exactly where the environment knows its number, with that; the source map leads from each written expression and
-/// label to what it became, from the nodes of patterns, types and lifetimes to them, from calls of macros to the expression, pattern or
-/// type that they stand for, from the values and patterns of a record's kept fields to their fields, and from nothing else; each binding is
-/// owned by the innermost closure, coroutine, `const` block, length or argument around it, and where it stands in none of these, by
-/// nothing, as `self` and all that the outside hands its arguments to; all stored types and all lifetimes, in their order, read back as
-/// what is written, also those that nothing reaches; the numbers of blocks come in the order of entering, and so do the
-/// calls of macros that are entered, each behind what else was expanded for it; the diagnostics are those that body, parameters and tree
-/// owe. Each name that is made up is of one binding or label at most, or of a parameter as it is handed in and of what its coroutine begins
-/// with. Each number in store and source map is in range. A skipped body is a missing expression, no coroutine, and owes no fault of its
-/// own. `Memory` where a growth was refused; `Full` only where parameters and tree become more expressions, labels, patterns, bindings,
-/// types or lifetimes than the arenas have room for, or a path in them has more `super`s, a pattern more parts in front of its two dots, a
-/// block more definitions of one name by `macro_rules`, or they more names that are made up, than 32 bits count; never `Failed`. It isn't
-/// `Ok` where there is no room for what they become, or for the names that are made up (clause `fits`). Each
-/// parameter reads back as it is written, in order, and `self` is the binding of its name, of which nothing is wrong. The outside hands its
-/// arguments to these, or, where the body is a coroutine, to a `mut` name for each at the node of its pattern, if it has one, and to a
-/// `self` of its own. Parameters are read of functions alone, and of each item that is skipped, `self` first and then those that no
-/// condition disables. In an extern block, and in a trait where the function has no body, a parameter is a plain name or `_`, also behind
-/// calls of macros, and any other is missing and owes a fault. Of a skipped body each is missing.
+/// - `Ok`: the root is trace-equivalent to the written body (`same_meaning`). Store, source map and diagnostics are those that the
+///   arguments require (`one_result`), and all of it fits (`fits`). `specs/Clauses.antt` has the words of all clauses.
+/// - `Full`: the arguments require more entries than an arena holds, or overflow a counter of 32 bits (`too_large`).
+/// - `Memory`: an allocation was refused.
+/// - `Failed`: never (`own`).
+/// - Each outcome but `Memory` is what the steps of the description leave, from nothing (`steps`).
+///
+/// What is lowered:
+///
+/// - With `is_async_fn` or `is_gen_fn` the body is a coroutine, whose prelude binds the parameters.
+/// - Parameters are lowered only if the owner is a function or is skipped: `self` first, then those that no `cfg` disables.
+/// - In an extern block, and in a trait if the function has no body, a parameter must be a plain name or `_`, also as the expansion of a
+///   macro call. Any other one is missing and requires a diagnostic.
+/// - A skipped body is a missing expression, is no coroutine, and requires no diagnostic of its own. Each of its parameters is missing.
 pub fn lower_body<E: LowerEnv>(
     alloc: Global,
     db: &E,
@@ -514,54 +499,28 @@ pub fn lower_body<E: LowerEnv>(
     is_async_fn: bool,
     is_gen_fn: bool,
 ) -> Result<(Body, BodySourceMap), LowerError>
-    ensures same_meaning { let at = body_spot (E.answers db.now) owner current_file_id inside is_async_fn in
-        let formals = item_formals at owner (option_copied params.entry) (is_some (option_copied body.entry)) in
-        let skipped = at.answers.skip owner in
-        let kind = kind_unless_skipped skipped (coroutine_kind is_async_fn is_gen_fn) in
-        let written = formals_read skipped formals.formals in
-        let read = body_read at owner (option_copied body.entry) in
-        IfOk result (λ r. HasBody kind r.0.store r.1.store (formals_of r.0).1 formals.receiver written read) }
-    ensures one_result { let at = body_spot (E.answers db.now) owner current_file_id inside is_async_fn in
-        let owed = body_owes at owner syntax_node (option_copied body.entry) in
-        let formals = item_formals at owner (option_copied params.entry) (is_some (option_copied body.entry)) in
-        let skipped = at.answers.skip owner in
-        let kind = kind_unless_skipped skipped (coroutine_kind is_async_fn is_gen_fn) in
-        let read = body_read at owner (option_copied body.entry) in
-        IfOk result (λ r. OneResult r.0.store r.1.store owed kind skipped formals (given_of r.0) read) }
-    ensures expanded { let at = body_spot (E.answers db.now) owner current_file_id inside is_async_fn in
-        let formals = item_formals at owner (option_copied params.entry) (is_some (option_copied body.entry)) in
-        let skipped = at.answers.skip owner in
-        let kind = kind_unless_skipped skipped (coroutine_kind is_async_fn is_gen_fn) in
-        let read = body_read at owner (option_copied body.entry) in
-        IfOk result (λ r. r.1.store.expansions ≡ expanded_in_body kind skipped formals read) }
-    ensures stored { let at = body_spot (E.answers db.now) owner current_file_id inside is_async_fn in
-        let formals = item_formals at owner (option_copied params.entry) (is_some (option_copied body.entry)) in
-        let skipped = at.answers.skip owner in
-        let kind = kind_unless_skipped skipped (coroutine_kind is_async_fn is_gen_fn) in
-        let read = body_read at owner (option_copied body.entry) in
-        IfOk result (λ r. ReadsAs (data_in_body kind skipped formals read) r.0.store r.1.store) }
-    ensures params { let at = body_spot (E.answers db.now) owner current_file_id inside is_async_fn in
-        let formals = item_formals at owner (option_copied params.entry) (is_some (option_copied body.entry)) in
-        let skipped = at.answers.skip owner in
-        let kind = kind_unless_skipped skipped (coroutine_kind is_async_fn is_gen_fn) in
-        IfOk result (λ r. HasParams kind r.0.store r.1.store r.0.params r.0.self_param skipped formals) }
-    ensures self_source { let at = body_spot (E.answers db.now) owner current_file_id inside is_async_fn in
-        let formals = item_formals at owner (option_copied params.entry) (is_some (option_copied body.entry)) in
-        IfOk result (λ r. r.1.self_param ≡ self_source formals.receiver) }
+    ensures same_meaning { let x = body_input (E.answers db.now) owner syntax_node current_file_id inside
+        (option_copied params.entry) (option_copied body.entry) is_async_fn is_gen_fn in IfOk result (λ r. HasSameMeaning x r.0 r.1) }
+    ensures one_result { let x = body_input (E.answers db.now) owner syntax_node current_file_id inside
+        (option_copied params.entry) (option_copied body.entry) is_async_fn is_gen_fn in IfOk result (λ r. IsOneResult x r.0 r.1) }
+    ensures expanded { let x = body_input (E.answers db.now) owner syntax_node current_file_id inside
+        (option_copied params.entry) (option_copied body.entry) is_async_fn is_gen_fn in IfOk result (λ r. HasExpansions x r.1) }
+    ensures stored { let x = body_input (E.answers db.now) owner syntax_node current_file_id inside
+        (option_copied params.entry) (option_copied body.entry) is_async_fn is_gen_fn in IfOk result (λ r. HasStoredData x r.0 r.1) }
+    ensures params { let x = body_input (E.answers db.now) owner syntax_node current_file_id inside
+        (option_copied params.entry) (option_copied body.entry) is_async_fn is_gen_fn in IfOk result (λ r. HasBodyParams x r.0 r.1) }
+    ensures self_source { let x = body_input (E.answers db.now) owner syntax_node current_file_id inside
+        (option_copied params.entry) (option_copied body.entry) is_async_fn is_gen_fn in IfOk result (λ r. HasSelfSource x r.1) }
     ensures made_once { IfOk result (λ r. MadeOnce r.0.store (formals_of r.0).1) }
     ensures in_range { IfOk result (λ r. InRange r.0.store r.1.store) }
-    ensures too_large { let at = body_spot (E.answers db.now) owner current_file_id inside is_async_fn in
-        let formals = item_formals at owner (option_copied params.entry) (is_some (option_copied body.entry)) in
-        let skipped = at.answers.skip owner in
-        let kind = kind_unless_skipped skipped (coroutine_kind is_async_fn is_gen_fn) in
-        let read = body_read at owner (option_copied body.entry) in
-        IsErrOf result LowerError.Full → Exceeds 4294967295 (body_size kind skipped formals read) }
-    ensures fits { let at = body_spot (E.answers db.now) owner current_file_id inside is_async_fn in
-        let formals = item_formals at owner (option_copied params.entry) (is_some (option_copied body.entry)) in
-        let skipped = at.answers.skip owner in
-        let kind = kind_unless_skipped skipped (coroutine_kind is_async_fn is_gen_fn) in
-        let read = body_read at owner (option_copied body.entry) in
-        IfOk result (λ r. FitsIn 4294967295 (body_size kind skipped formals read)) }
+    ensures too_large { let x = body_input (E.answers db.now) owner syntax_node current_file_id inside
+        (option_copied params.entry) (option_copied body.entry) is_async_fn is_gen_fn in IsErrOf result LowerError.Full → BodyExceeds x }
+    ensures fits { let x = body_input (E.answers db.now) owner syntax_node current_file_id inside
+        (option_copied params.entry) (option_copied body.entry) is_async_fn is_gen_fn in IfOk result (λ r. BodyFits x) }
+    ensures steps { let at = body_rctx (E.answers db.now) owner current_file_id inside is_async_fn in
+        let kind = coroutine_kind is_async_fn is_gen_fn in
+        let item = item_of kind at owner syntax_node (option_copied params.entry) (option_copied body.entry) in
+        FromSteps item 4294967295 result }
     ensures own { result ≢ Err LowerError.Failed }
 {
     body_steps(

@@ -5,40 +5,42 @@ ghost use Rattle.std.specs.Prelude.{option_copied};
 ghost use Rattle.hir_store.specs.Range.{HasExpr, HasTypeParts, InRange};
 ghost use Rattle.hir_store.specs.Stored.{map_of, store_of};
 ghost use Rattle.hir_env.specs.Paths.{inside_constant};
-ghost use Rattle.hir_env.specs.Spot.{in_file};
+ghost use Rattle.hir_env.specs.ResolveCtx.{in_file};
 ghost use Rattle.hir_env.specs.Whole.{expr_part};
-ghost use Rattle.hir_lower_form.specs.Generics.{predicates_of};
-ghost use Rattle.hir_lower_form.specs.Lowering.{Lowers, SomeEnd};
-ghost use Rattle.hir_lower_form.specs.Methods.{LowersExprOpt};
-ghost use Rattle.hir_steps.specs.Keeps.{MadeApart, Mapped, Paired};
-ghost use Rattle.hir_one_result.specs.Definitions.{DefinitionsAre};
-ghost use Rattle.hir_one_result.specs.Laws.{Defined, MayBeOwned};
-ghost use Rattle.hir_one_result.specs.Room.{Short, TooLarge, size_part, whole_size};
-ghost use Rattle.hir_item_result.specs.Answers.{parameter_type};
-ghost use Rattle.hir_item_result.specs.Exceeding.{FitsBehind, InLimits};
-ghost use Rattle.hir_lower_handlers.specs.Spots.{spot_at};
+ghost use Rattle.hir_lower_builder.specs.Generics.{predicates_of};
+ghost use Rattle.hir_lower_builder.specs.Lowering.{Lowers, SomeEnd};
+ghost use Rattle.hir_lower_builder.specs.Methods.{LowersExprOpt};
+ghost use Rattle.thm_logic.specs.Keeps.{MadeApart, Mapped, Paired};
+ghost use Rattle.spec_data.specs.Fold.{tracked_in_part, tracked_in_whole};
+ghost use Rattle.thm_generics.specs.Lists.{Tracked};
+ghost use Rattle.thm_body_result.specs.Definitions.{DefinitionsAre};
+ghost use Rattle.thm_body_result.specs.Theorems.{Defined, MayBeOwned};
+ghost use Rattle.thm_body_result.specs.Room.{Short, TooLarge, size_part, whole_size};
+ghost use Rattle.thm_item_result.specs.Answers.{parameter_type};
+ghost use Rattle.thm_item_result.specs.Exceeding.{FitsBehind, InLimits};
+ghost use Rattle.hir_lower_callbacks.specs.ResolveCtxs.{rctx_at};
 ghost use Rattle.hir_lower.specs.Beside.{TakesArguments};
 ghost use Rattle.hir_lower.specs.Calls.{Calls, Outside};
 ghost use Rattle.hir_lower.specs.Collected.{Collected, OfCalls};
+ghost use Rattle.hir_lower.specs.Inputs.{const_input, path_input, path_rctx};
 ghost use Rattle.hir_lower.specs.Means.{AddsType, BearsNames, MadeOnce, NoRoomForType, PathRooted, ReadsBack, RoomForType, Rooted};
 ghost use Rattle.hir_lower.specs.Means.{whole_path, with_impl};
-ghost use Rattle.hir_lower.specs.Named.{none_named};
-ghost use Rattle.hir_lower.specs.Roots.{becoming, fresh, outside_body, root_of};
+ghost use Rattle.hir_lower.specs.Roots.{new_builder, outside_body, root_of};
 ghost use Rattle.hir_lower.specs.Stays.{Stays};
 
 use crate::error::LowerError;
 use crate::impl_trait::{ImplTraitLower, ImplTraitMode};
-use crate::named::NamedLifetimeStore;
 use hir_base::Seq;
 use hir_base::node::{AstPtr, HirFileId, InFile};
+use hir_env::ctx::{ImplTrait, LifetimeScope, LowerCtx, LoweringMode, inside_constant};
 use hir_env::env::LowerEnv;
-use hir_env::place::{ImplTrait, LifetimeScope, LoweringMode, Place, inside_constant};
-use hir_lower_form::builder::StoredBody;
-use hir_lower_form::generics::GenericLists;
-use hir_lower_knot::knot::{collect_expr, lower_path};
+use hir_lower_builder::builder::StoredBody;
+use hir_lower_builder::generics::GenericLists;
+use hir_lower_recursion::knot::{collect_expr, lower_path};
+use hir_lower_scope::lifetimes::NamedLifetimeStore;
 use hir_store::builder::ExpressionStoreBuilder;
 use hir_store::diagnostics::AwaitLocation;
-use hir_store::fault::StoreFault;
+use hir_store::error::StoreError;
 use hir_store::generics::{
     TypeOrConstParamData, TypeParamData, TypeParamProvenance, WherePredicate,
 };
@@ -66,12 +68,12 @@ fn unboxed(expr: &Option<Boxed<ast::Expr>>) -> Option<&ast::Expr>
 pub(crate) fn collect_expr_opt<E: LowerEnv>(
     alloc: Global,
     env: &E,
-    place: Place,
+    place: LowerCtx,
     state: &mut StoredBody,
     expr: Option<&ast::Expr>,
-) -> Result<ExprId, StoreFault>
-    ensures { let spot = spot_at (E.answers env.now) place in
-        LowersExprOpt (expr_part spot (option_copied expr.entry)) state.old result state.new }
+) -> Result<ExprId, StoreError>
+    ensures { let rctx = rctx_at (E.answers env.now) place in
+        LowersExprOpt (expr_part rctx (option_copied expr.entry)) state.old result state.new }
 {
     match expr {
         None => state.missing_expr(),
@@ -83,12 +85,12 @@ pub(crate) fn collect_expr_opt<E: LowerEnv>(
 fn root_steps<E: LowerEnv>(
     alloc: Global,
     env: &E,
-    place: Place,
+    place: LowerCtx,
     state: &mut StoredBody,
     expr: Option<&ast::Expr>,
-) -> Result<ExprId, StoreFault>
-    ensures { let spot = spot_at (E.answers env.now) place in
-        Lowers HasExpr (root_of (expr_part spot (option_copied expr.entry))) state.old result state.new }
+) -> Result<ExprId, StoreError>
+    ensures { let rctx = rctx_at (E.answers env.now) place in
+        Lowers HasExpr (root_of (expr_part rctx (option_copied expr.entry))) state.old result state.new }
 {
     state.close_labels(alloc);
     let _ = state.enter_root();
@@ -104,13 +106,13 @@ fn root_steps<E: LowerEnv>(
 pub(crate) fn lower_root<E: LowerEnv>(
     alloc: Global,
     env: &E,
-    place: Place,
+    place: LowerCtx,
     state: &mut StoredBody,
     expr: Option<&ast::Expr>,
-) -> Result<ExprId, StoreFault>
-    ensures lowers { let spot = spot_at (E.answers env.now) place in
-        Lowers HasExpr (root_of (expr_part spot (option_copied expr.entry))) state.old result state.new }
-    ensures rooted { let e = expr_part (spot_at (E.answers env.now) place) (option_copied expr.entry) in
+) -> Result<ExprId, StoreError>
+    ensures lowers { let rctx = rctx_at (E.answers env.now) place in
+        Lowers HasExpr (root_of (expr_part rctx (option_copied expr.entry))) state.old result state.new }
+    ensures rooted { let e = expr_part (rctx_at (E.answers env.now) place) (option_copied expr.entry) in
         Paired state.old.stored → MayBeOwned state.old.stored → IfOk result (λ i. Rooted state.old.stored state.new.stored i e) }
     ensures owners { MayBeOwned state.old.stored → IfOk result (λ i. MayBeOwned state.new.stored) }
     ensures defined { Paired state.old.stored → MayBeOwned state.old.stored → Defined state.old.stored
@@ -121,14 +123,16 @@ pub(crate) fn lower_root<E: LowerEnv>(
     ensures outside { IfOk result (λ i. Outside state.new) }
     ensures apart { Paired state.old.stored → ∥ MadeApart state.old.names state.old.stored ∥₁
         → IfOk result (λ i. ∥ MadeApart state.new.names state.new.stored ∥₁) }
-    ensures too_large { let e = expr_part (spot_at (E.answers env.now) place) (option_copied expr.entry) in
-        Paired state.old.stored → IsErrOf result StoreFault.Full → TooLarge state.old e }
-    ensures names { let e = expr_part (spot_at (E.answers env.now) place) (option_copied expr.entry) in
+    ensures too_large { let e = expr_part (rctx_at (E.answers env.now) place) (option_copied expr.entry) in
+        Paired state.old.stored → IsErrOf result StoreError.Full → TooLarge state.old e }
+    ensures names { let e = expr_part (rctx_at (E.answers env.now) place) (option_copied expr.entry) in
         Paired state.old.stored → IfOk result (λ i. state.new.names ≡ state.old.names + (size_part e).names) }
-    ensures fits { let e = expr_part (spot_at (E.answers env.now) place) (option_copied expr.entry) in
+    ensures tracked { let e = expr_part (rctx_at (E.answers env.now) place) (option_copied expr.entry) in
+        Paired state.old.stored → IfOk result (λ i. Tracked (tracked_in_part e) state.old state.new) }
+    ensures fits { let e = expr_part (rctx_at (E.answers env.now) place) (option_copied expr.entry) in
         Paired state.old.stored → InLimits state.old → IfOk result (λ i. FitsBehind (size_part e) state.old) }
     ensures within { Paired state.old.stored → InLimits state.old → IfOk result (λ i. InLimits state.new) }
-    ensures stays { MayBeOwned state.old.stored → result ≢ Err StoreFault.Memory → Stays state.old.stored state.new.stored }
+    ensures stays { MayBeOwned state.old.stored → result ≢ Err StoreError.Memory → Stays state.old.stored state.new.stored }
 {
     root_steps(alloc, env, place, state, expr)
 }
@@ -137,16 +141,16 @@ pub(crate) fn lower_root<E: LowerEnv>(
 fn lower_whole_path<E: LowerEnv>(
     alloc: Global,
     env: &E,
-    place: Place,
+    place: LowerCtx,
     state: &mut StoredBody,
     path: &ast::Path,
-) -> Result<Option<Path>, StoreFault>
-    ensures data { let p = whole_path (spot_at (E.answers env.now) place) path.now in
+) -> Result<Option<Path>, StoreError>
+    ensures data { let p = whole_path (rctx_at (E.answers env.now) place) path.now in
         Paired state.old.stored → IfOk result (λ r. ReadsBack state.new.stored r p) }
     ensures segments { Paired state.old.stored → IfOk result (λ r. BearsNames state.new.stored path.now r) }
-    ensures arguments { let at = spot_at (E.answers env.now) place in
+    ensures arguments { let at = rctx_at (E.answers env.now) place in
         Paired state.old.stored → IfOk result (λ r. TakesArguments state.new.stored at path.now r) }
-    ensures rooted { let p = whole_path (spot_at (E.answers env.now) place) path.now in
+    ensures rooted { let p = whole_path (rctx_at (E.answers env.now) place) path.now in
         Paired state.old.stored → MayBeOwned state.old.stored → Outside state.old
         → IfOk result (λ r. PathRooted state.old.stored state.new.stored r p) }
     ensures owners { MayBeOwned state.old.stored → IfOk result (λ r. MayBeOwned state.new.stored) }
@@ -158,15 +162,17 @@ fn lower_whole_path<E: LowerEnv>(
     ensures outside { Outside state.old → IfOk result (λ r. Outside state.new) }
     ensures apart { Paired state.old.stored → ∥ MadeApart state.old.names state.old.stored ∥₁
         → IfOk result (λ r. ∥ MadeApart state.new.names state.new.stored ∥₁) }
-    ensures full { IsErrOf result StoreFault.Full → SomeEnd state.new }
-    ensures too_large { let p = whole_path (spot_at (E.answers env.now) place) path.now in
-        Paired state.old.stored → IsErrOf result StoreFault.Full → Short (whole_size p) state.old }
-    ensures names { let p = whole_path (spot_at (E.answers env.now) place) path.now in
+    ensures full { IsErrOf result StoreError.Full → SomeEnd state.new }
+    ensures too_large { let p = whole_path (rctx_at (E.answers env.now) place) path.now in
+        Paired state.old.stored → IsErrOf result StoreError.Full → Short (whole_size p) state.old }
+    ensures names { let p = whole_path (rctx_at (E.answers env.now) place) path.now in
         Paired state.old.stored → IfOk result (λ r. state.new.names ≡ state.old.names + (whole_size p).names) }
-    ensures fits { let p = whole_path (spot_at (E.answers env.now) place) path.now in
+    ensures tracked { let p = whole_path (rctx_at (E.answers env.now) place) path.now in
+        Paired state.old.stored → IfOk result (λ r. Tracked (tracked_in_whole p) state.old state.new) }
+    ensures fits { let p = whole_path (rctx_at (E.answers env.now) place) path.now in
         Paired state.old.stored → InLimits state.old → IfOk result (λ r. FitsBehind (whole_size p) state.old) }
     ensures within { Paired state.old.stored → InLimits state.old → IfOk result (λ r. InLimits state.new) }
-    ensures stays { MayBeOwned state.old.stored → result ≢ Err StoreFault.Memory → Stays state.old.stored state.new.stored }
+    ensures stays { MayBeOwned state.old.stored → result ≢ Err StoreError.Memory → Stays state.old.stored state.new.stored }
 {
     lower_path(alloc, env, place, state, path)
 }
@@ -176,16 +182,17 @@ fn add_type(
     state: &mut StoredBody,
     ty: TypeRef,
     source: InFile<AstPtr>,
-) -> Result<TypeRefId, StoreFault>
+) -> Result<TypeRefId, StoreError>
     requires { HasTypeParts state.old.stored ty }
     ensures adds { IfOk result (λ i. AddsType state.old.stored state.new.stored i ty source) }
-    ensures full { IsErrOf result StoreFault.Full → SomeEnd state.new }
-    ensures no_room { IsErrOf result StoreFault.Full → NoRoomForType state.old.stored }
+    ensures full { IsErrOf result StoreError.Full → SomeEnd state.new }
+    ensures no_room { IsErrOf result StoreError.Full → NoRoomForType state.old.stored }
     ensures fits { IfOk result (λ i. RoomForType state.old.stored) }
     ensures within { InLimits state.old → IfOk result (λ i. InLimits state.new) }
-    ensures unchanged { IsErrOf result StoreFault.Full → state.new.stored ≡ state.old.stored }
-    ensures scopes { result ≢ Err StoreFault.Memory → state.new.scopes ≡ state.old.scopes }
-    ensures names { result ≢ Err StoreFault.Memory → state.new.names ≡ state.old.names }
+    ensures unchanged { IsErrOf result StoreError.Full → state.new.stored ≡ state.old.stored }
+    ensures scopes { result ≢ Err StoreError.Memory → state.new.scopes ≡ state.old.scopes }
+    ensures names { result ≢ Err StoreError.Memory → state.new.names ≡ state.old.names }
+    ensures tracks { result ≢ Err StoreError.Memory → state.new.tracks ≡ state.old.tracks }
     ensures owners { MayBeOwned state.old.stored → IfOk result (λ i. MayBeOwned state.new.stored) }
     ensures defined { Defined state.old.stored → IfOk result (λ i. Defined state.new.stored) }
     ensures mapped { ∥ Mapped state.old.stored ∥₁ → IfOk result (λ i. ∥ Mapped state.new.stored ∥₁) }
@@ -219,7 +226,7 @@ fn push_bounds(
 }
 
 /// Notes the parameter that an `impl` became, with its predicates.
-fn note_param(
+fn track_param(
     lists: &mut GenericLists,
     target: TypeRefId,
     bounds: &Seq<TypeBound>,
@@ -243,17 +250,18 @@ fn add_param(
     parent: GenericDefId,
     bounds: &Seq<TypeBound>,
     source: InFile<AstPtr>,
-) -> Result<TypeRefId, StoreFault>
+) -> Result<TypeRefId, StoreError>
     ensures adds { IfOk result (λ i. AddsType state.old.stored state.new.stored i
         (parameter_type parent (length lists.old.type_or_consts)) source) }
     ensures lists { IfOk result (λ i. lists.new ≡ with_impl i bounds.now lists.old) }
-    ensures no_room { IsErrOf result StoreFault.Full
+    ensures no_room { IsErrOf result StoreError.Full
         → NoRoomForType state.old.stored ⊎ (4294967295 ≤ length lists.old.type_or_consts) }
     ensures fits { IfOk result (λ i. RoomForType state.old.stored × (length lists.old.type_or_consts < 4294967295)) }
     ensures within { InLimits state.old → IfOk result (λ i. InLimits state.new) }
-    ensures unchanged { IsErrOf result StoreFault.Full → state.new.stored ≡ state.old.stored }
-    ensures scopes { result ≢ Err StoreFault.Memory → state.new.scopes ≡ state.old.scopes }
-    ensures names { result ≢ Err StoreFault.Memory → state.new.names ≡ state.old.names }
+    ensures unchanged { IsErrOf result StoreError.Full → state.new.stored ≡ state.old.stored }
+    ensures scopes { result ≢ Err StoreError.Memory → state.new.scopes ≡ state.old.scopes }
+    ensures names { result ≢ Err StoreError.Memory → state.new.names ≡ state.old.names }
+    ensures tracks { result ≢ Err StoreError.Memory → state.new.tracks ≡ state.old.tracks }
     ensures owners { MayBeOwned state.old.stored → IfOk result (λ i. MayBeOwned state.new.stored) }
     ensures defined { Defined state.old.stored → IfOk result (λ i. Defined state.new.stored) }
     ensures mapped { ∥ Mapped state.old.stored ∥₁ → IfOk result (λ i. ∥ Mapped state.new.stored ∥₁) }
@@ -264,14 +272,14 @@ fn add_param(
 {
     let number = lists.type_or_consts.len();
     if number >= u32::MAX as usize {
-        return Err(StoreFault::Full);
+        return Err(StoreError::Full);
     }
     let ty = TypeRef::TypeParam(TypeParamId {
         parent,
         local_id: LocalTypeOrConstParamId(number as u32),
     });
     let id = add_type(state, ty, source)?;
-    note_param(lists, id, bounds)?;
+    track_param(lists, id, bounds)?;
     Ok(id)
 }
 
@@ -282,11 +290,9 @@ fn add_param(
 pub struct ExprCollector<'db, E: LowerEnv> {
     alloc: Global,
     db: &'db E,
-    place: Place,
+    place: LowerCtx,
     state: StoredBody,
-    named: NamedLifetimeStore,
     failed: bool,
-    ghost unnamed: { named ≡ none_named },
     ghost paired: { failed ≡ false → Paired state.stored },
     ghost owners: { failed ≡ false → MayBeOwned state.stored },
     ghost defined: { failed ≡ false → Defined state.stored },
@@ -304,7 +310,6 @@ impl<'db, E: LowerEnv> Drop for ExprCollector<'db, E> {
             db: _,
             place: _,
             state: _,
-            named: _,
             failed: _,
         } = self;
     }
@@ -321,7 +326,7 @@ impl<'db, E: LowerEnv> ExprCollector<'db, E> {
     ) -> ExprCollector<'db, E>
         ensures env { result.db.now ≡ db.now }
         ensures place { result.place ≡ outside_body (E.answers db.now) current_file_id inside lowering_mode }
-        ensures empty { result.state ≡ fresh 4294967295 }
+        ensures empty { result.state ≡ new_builder 4294967295 }
         ensures works { result.failed ≡ false }
     {
         ExprCollector::with_limit(alloc, db, inside, current_file_id, lowering_mode, u32::MAX)
@@ -338,13 +343,13 @@ impl<'db, E: LowerEnv> ExprCollector<'db, E> {
     ) -> ExprCollector<'db, E>
         ensures env { result.db.now ≡ db.now }
         ensures place { result.place ≡ outside_body (E.answers db.now) current_file_id inside lowering_mode }
-        ensures empty { result.state ≡ fresh limit }
+        ensures empty { result.state ≡ new_builder limit }
         ensures works { result.failed ≡ false }
     {
         ExprCollector {
             alloc,
             db,
-            place: Place {
+            place: LowerCtx {
                 file_id: current_file_id,
                 module_id: inside,
                 mode: lowering_mode,
@@ -354,35 +359,34 @@ impl<'db, E: LowerEnv> ExprCollector<'db, E> {
                 lifetimes: LifetimeScope::Nowhere,
                 left: db.expansion_limit(),
             },
-            state: StoredBody::new(alloc, limit),
-            named: NamedLifetimeStore::new(alloc),
+            state: StoredBody::new(alloc, limit, db.hash_key()),
             failed: false,
         }
     }
 
-    /// Lowers a constant as a root of its own. It is read inside of a constant, which is what an `await` in it stands in.
+    /// Lowers a constant as a root of its own. It is read inside of a constant: this is what an `await` in it is in.
     ///
-    /// In each later store that keeps the problems of its bindings its expression does what the constant does, for every answerer and every
-    /// number of turns that a loop may take; what is stored stands for the tree, and faults, blocks, calls of macros and ways of the source
-    /// map come behind those of before. Each expression, type and pattern that it reaches came with it, and is reached in one way only.
-    /// Each binding that came is owned by the innermost closure, coroutine, `const` block, length or argument around it, and where it
-    /// stands in none of these, by the constant. `Memory` where a growth was refused, `Full` where an arena has no room for the tree, or a
-    /// path in the tree has more `super`s, a pattern more parts in front of its two dots, a block more definitions of one name by
-    /// `macro_rules`, or more names are made up, than 32 bits count, `Failed` after an error, and then nothing changes. It isn't `Ok` where
-    /// there is no room for what the tree becomes, or for the names that are made up. As many names are
-    /// made up as the tree needs, and no more. All that was stored is stored still, unless memory was refused, each binding with what owns
-    /// it, and a node leads to where it led, or to what came since.
+    /// - `Ok`: in each later store that keeps the binding problems, the root is trace-equivalent to the constant. What was added is what
+    ///   the constant requires (`rooted`, `names`), and it fits (`fits`). The side output grows by the lifetimes that it names (`tracked`).
+    /// - `Full`: the constant requires more than is left in an arena, or overflows a counter of 32 bits (`too_large`).
+    /// - `Memory`: an allocation was refused.
+    /// - `Failed`: an earlier call returned an error. Nothing changes (`calls`).
+    ///
+    /// Unless `Memory` is returned, all that was stored is unchanged, and a syntax node that had an entry leads to the same entry or to a
+    /// later one (`stays`).
     pub fn lower_const_arg(&mut self, arg: &ast::ConstArg) -> Result<ConstRef, LowerError>
         ensures calls { Calls self.old.failed self.old.state result self.new.state self.new.failed }
-        ensures rooted { let e = expr_part (spot_at (E.answers self.old.db.now) (inside_constant self.old.place)) arg.now in
+        ensures rooted { let e = const_input (E.answers self.old.db.now) self.old.place arg.now in
             IfOk result (λ c. Rooted self.old.state.stored self.new.state.stored c.expr e) }
         ensures full { IsErrOf result LowerError.Full → SomeEnd self.new.state }
-        ensures too_large { let e = expr_part (spot_at (E.answers self.old.db.now) (inside_constant self.old.place)) arg.now in
+        ensures too_large { let e = const_input (E.answers self.old.db.now) self.old.place arg.now in
             IsErrOf result LowerError.Full → TooLarge self.old.state e }
-        ensures fits { let e = expr_part (spot_at (E.answers self.old.db.now) (inside_constant self.old.place)) arg.now in
+        ensures fits { let e = const_input (E.answers self.old.db.now) self.old.place arg.now in
             IfOk result (λ c. FitsBehind (size_part e) self.old.state) }
-        ensures names { let e = expr_part (spot_at (E.answers self.old.db.now) (inside_constant self.old.place)) arg.now in
+        ensures names { let e = const_input (E.answers self.old.db.now) self.old.place arg.now in
             IfOk result (λ c. self.new.state.names ≡ self.old.state.names + (size_part e).names) }
+        ensures tracked { let e = const_input (E.answers self.old.db.now) self.old.place arg.now in
+            IfOk result (λ c. Tracked (tracked_in_part e) self.old.state self.new.state) }
         ensures stays { result ≢ Err LowerError.Memory → Stays self.old.state.stored self.new.state.stored }
         ensures db { self.new.db ≡ self.old.db }
         ensures place { self.new.place ≡ self.old.place }
@@ -402,41 +406,41 @@ impl<'db, E: LowerEnv> ExprCollector<'db, E> {
         Ok(ConstRef { expr })
     }
 
-    /// Lowers a path (upstream's function of this name), or answers none where a segment that is read refuses it; what an
-    /// `impl` in it becomes is the caller's choice.
+    /// Lowers a path (upstream's function of this name). If a segment that is read refuses it, the result is `None`. The caller says what
+    /// an `impl Trait` in it becomes.
     ///
-    /// It has the names of all segments that are read, those of use trees around it in front, with the arguments that stand beside them,
-    /// and begins where they say. Where no use tree stands around it or its trait, no segment of either is missing, and the trait has no
-    /// qualified type, its names are those of the written segments that bear one, and beside each stands what is written behind its
-    /// segment: of the last one of a trait behind the type that the trait is of, or nothing, where no name stands behind it. `Memory`
-    /// where a growth was refused, `Full` where an arena has no room for its types, lifetimes and constants and the patterns in them, or
-    /// it has more `super`s, a pattern in it more parts in front of its two dots, a block in it more definitions of one name by
-    /// `macro_rules`, or more names are made up, or more `impl`s become parameters, than 32 bits count, `Failed` after an error. It isn't
-    /// `Ok` where there is no room for what the path becomes, nor for the names and the parameters. All that was stored is stored still,
-    /// unless memory was refused, and nothing comes behind it but the path's types, its lifetimes and its constants, each of which is
-    /// recorded as a root, with the patterns and bindings in them, what is wrong in it, the blocks in its constants, and the calls of
-    /// macros that are entered, each behind what else was expanded for it; so it is also where the path is refused. Each of these
-    /// bindings is owned by the innermost closure, coroutine, `const` block, length or argument around it.
+    /// - `Ok`: the path decodes to the written one, with the names of the use trees around it in front (`data`). Its names are those of the
+    ///   written segments (`segments`), and its arguments are those behind these segments (`arguments`); both are claimed if no use tree is
+    ///   around it or its trait, no segment of either is missing, and the trait has no qualified type. What was added is what the path
+    ///   requires, even if it is refused (`rooted`, `names`), and it fits (`fits`). The side output grows by the parameters that an
+    ///   `impl Trait` becomes, with their predicates, and by the lifetimes that the path names (`tracked`).
+    /// - `Full`: the path requires more than is left in an arena, or overflows a counter of 32 bits (`too_large`).
+    /// - `Memory`: an allocation was refused.
+    /// - `Failed`: an earlier call returned an error. Nothing changes (`calls`).
+    ///
+    /// Unless `Memory` is returned, all that was stored is unchanged (`stays`).
     pub fn lower_path<I: ImplTraitLower>(
         &mut self,
         path: &ast::Path,
         impl_trait: &mut I,
     ) -> Result<Option<Path>, LowerError>
         ensures calls { Calls self.old.failed self.old.state result self.new.state self.new.failed }
-        ensures data { let at = spot_at (E.answers self.old.db.now) (becoming self.old.place (I.mode impl_trait.old)) in
-            IfOk result (λ r. ReadsBack self.new.state.stored r (whole_path at path.now)) }
+        ensures data { let p = path_input (E.answers self.old.db.now) self.old.place (I.mode impl_trait.old) path.now in
+            IfOk result (λ r. ReadsBack self.new.state.stored r p) }
         ensures segments { IfOk result (λ r. BearsNames self.new.state.stored path.now r) }
-        ensures arguments { let at = spot_at (E.answers self.old.db.now) (becoming self.old.place (I.mode impl_trait.old)) in
+        ensures arguments { let at = path_rctx (E.answers self.old.db.now) self.old.place (I.mode impl_trait.old) in
             IfOk result (λ r. TakesArguments self.new.state.stored at path.now r) }
-        ensures rooted { let at = spot_at (E.answers self.old.db.now) (becoming self.old.place (I.mode impl_trait.old)) in
-            IfOk result (λ r. PathRooted self.old.state.stored self.new.state.stored r (whole_path at path.now)) }
+        ensures rooted { let p = path_input (E.answers self.old.db.now) self.old.place (I.mode impl_trait.old) path.now in
+            IfOk result (λ r. PathRooted self.old.state.stored self.new.state.stored r p) }
         ensures full { IsErrOf result LowerError.Full → SomeEnd self.new.state }
-        ensures too_large { let at = spot_at (E.answers self.old.db.now) (becoming self.old.place (I.mode impl_trait.old)) in
-            IsErrOf result LowerError.Full → Short (whole_size (whole_path at path.now)) self.old.state }
-        ensures fits { let at = spot_at (E.answers self.old.db.now) (becoming self.old.place (I.mode impl_trait.old)) in
-            IfOk result (λ r. FitsBehind (whole_size (whole_path at path.now)) self.old.state) }
-        ensures names { let at = spot_at (E.answers self.old.db.now) (becoming self.old.place (I.mode impl_trait.old)) in
-            IfOk result (λ r. self.new.state.names ≡ self.old.state.names + (whole_size (whole_path at path.now)).names) }
+        ensures too_large { let p = path_input (E.answers self.old.db.now) self.old.place (I.mode impl_trait.old) path.now in
+            IsErrOf result LowerError.Full → Short (whole_size p) self.old.state }
+        ensures fits { let p = path_input (E.answers self.old.db.now) self.old.place (I.mode impl_trait.old) path.now in
+            IfOk result (λ r. FitsBehind (whole_size p) self.old.state) }
+        ensures names { let p = path_input (E.answers self.old.db.now) self.old.place (I.mode impl_trait.old) path.now in
+            IfOk result (λ r. self.new.state.names ≡ self.old.state.names + (whole_size p).names) }
+        ensures tracked { let p = path_input (E.answers self.old.db.now) self.old.place (I.mode impl_trait.old) path.now in
+            IfOk result (λ r. Tracked (tracked_in_whole p) self.old.state self.new.state) }
         ensures stays { result ≢ Err LowerError.Memory → Stays self.old.state.stored self.new.state.stored }
         ensures impl_trait { impl_trait.new ≡ impl_trait.old }
         ensures db { self.new.db ≡ self.old.db }
@@ -446,7 +450,7 @@ impl<'db, E: LowerEnv> ExprCollector<'db, E> {
             return Err(LowerError::Failed);
         }
         self.failed = true;
-        let place = Place {
+        let place = LowerCtx {
             impl_trait: impl_trait.mode(),
             ..self.place
         };
@@ -465,6 +469,7 @@ impl<'db, E: LowerEnv> ExprCollector<'db, E> {
         ensures unchanged { IsErrOf result LowerError.Full → self.new.state.stored ≡ self.old.state.stored }
         ensures scopes { result ≢ Err LowerError.Memory → self.new.state.scopes ≡ self.old.state.scopes }
         ensures names { result ≢ Err LowerError.Memory → self.new.state.names ≡ self.old.state.names }
+        ensures tracks { result ≢ Err LowerError.Memory → self.new.state.tracks ≡ self.old.state.tracks }
         ensures db { self.new.db ≡ self.old.db }
         ensures place { self.new.place ≡ self.old.place }
     {
@@ -499,6 +504,7 @@ impl<'db, E: LowerEnv> ExprCollector<'db, E> {
         ensures unchanged { IsErrOf result LowerError.Full → self.new.state.stored ≡ self.old.state.stored }
         ensures scopes { result ≢ Err LowerError.Memory → self.new.state.scopes ≡ self.old.state.scopes }
         ensures names { result ≢ Err LowerError.Memory → self.new.state.names ≡ self.old.state.names }
+        ensures tracks { result ≢ Err LowerError.Memory → self.new.state.tracks ≡ self.old.state.tracks }
         ensures db { self.new.db ≡ self.old.db }
         ensures place { self.new.place ≡ self.old.place }
     {
@@ -525,11 +531,19 @@ impl<'db, E: LowerEnv> ExprCollector<'db, E> {
         store
     }
 
-    /// The lifetimes that were named. What a collector lowers stands in no item, so none counts. It takes no memory.
+    /// The lifetimes that were named where they count, in the order of their first mention. What a collector lowers stands in no item, so
+    /// they are those that stand in `impl`s.
     pub fn named_lifetime_store(&self) -> &NamedLifetimeStore
-        ensures { result.now ≡ none_named }
+        ensures { result.now ≡ self.now.state.tracks.named }
     {
-        &self.named
+        &self.state.tracks().named
+    }
+
+    /// The parameters that `impl`s became, where the caller chose that they do, and the predicates of these.
+    pub fn generics(&self) -> &GenericLists
+        ensures { result.now ≡ self.now.state.tracks.generics }
+    {
+        &self.state.tracks().generics
     }
 
     /// The store and its source map, or `Failed` after an error. It takes no memory.
@@ -537,8 +551,8 @@ impl<'db, E: LowerEnv> ExprCollector<'db, E> {
     /// In them is what the calls left, one behind the other, and nothing else: each entry, each source and each way from a node or back
     /// is that of one of the trees that were lowered, or of a type that an `impl` became, as the call of it says. A node of a type or of a
     /// lifetime leads to one, and no other node leads to a lifetime. Each number is in range, each binding has the patterns that make it,
-    /// and no name is made up twice, but for those that the parameters of a closure with `async` or `gen` are handed in by.
-    #[tactic(auto, using(crate::proofs::MadeNames::once_of, crate::proofs::Meanings::definitions_of, crate::proofs::OneStore::calls_of))]
+    /// and no name is made up twice, except for those that the parameters of a closure with `async` or `gen` are handed in by.
+    #[tactic(auto, using(crate::proofs::GeneratedNames::once_of, crate::proofs::Meanings::definitions_of, crate::proofs::OneStore::calls_of))]
     pub fn into_store(self) -> Result<(ExpressionStore, ExpressionStoreSourceMap), LowerError>
         ensures failed { self.entry.failed ≡ true → result ≡ Err LowerError.Failed }
         ensures works { self.entry.failed ≡ false
@@ -554,7 +568,6 @@ impl<'db, E: LowerEnv> ExprCollector<'db, E> {
             db: _,
             place: _,
             state,
-            named: _,
             failed,
         } = self;
         if failed {

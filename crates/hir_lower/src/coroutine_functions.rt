@@ -1,23 +1,23 @@
 //! Functions with `async`, `gen` or both, whose bodies are coroutines.
 
 ghost use Rattle.std.specs.Prelude.{◌≡◌, option_copied};
-ghost use Rattle.hir_env.specs.Formals.{answered_formals};
+ghost use Rattle.hir_env.specs.Formals.{resolved_formals};
 ghost use Rattle.hir_env.specs.Whole.{expr_part};
-ghost use Rattle.hir_lower_form.specs.Lowering.{Lowers, owning};
-ghost use Rattle.hir_lower_handlers.specs.Spots.{spot_at};
-ghost use Rattle.hir_one_result.specs.Formals as spec;
+ghost use Rattle.hir_lower_builder.specs.Lowering.{Lowers, owning};
+ghost use Rattle.hir_lower_callbacks.specs.ResolveCtxs.{rctx_at};
+ghost use Rattle.thm_body_result.specs.Formals as spec;
 ghost use Rattle.hir_lower.specs.Formals as forms;
 ghost use Rattle.hir_lower.specs.Formals.{HasInFunction, HasSelf, outside_place, outside_the_body};
 ghost use Rattle.hir_lower.specs.Roots.{HasGivenBody};
 
 use crate::collector::collect_expr_opt;
 use crate::formals::{Given, Received, pats_form, self_form};
+use hir_env::ctx::LowerCtx;
 use hir_env::env::LowerEnv;
-use hir_env::place::Place;
-use hir_lower_form::builder::StoredBody;
-use hir_lower_form::preludes::{Handed, Prelude, let_params, lower_handed};
+use hir_lower_builder::builder::StoredBody;
+use hir_lower_builder::preludes::{Handed, Prelude, let_params, lower_handed};
 use hir_store::diagnostics::AwaitLocation;
-use hir_store::fault::StoreFault;
+use hir_store::error::StoreError;
 use hir_store::hir::{CoroutineKind, CoroutineSource};
 use hir_store::ids::{BindingId, ExprId};
 use hir_syntax::{Seq, ast};
@@ -27,21 +27,21 @@ use std::alloc::Global;
 type InFunction = (Received, (Seq<Handed>, ExprId));
 
 /// The place around a body, where parameters are read. Nothing async is around an `await` there, which stands in a constant.
-pub(crate) fn around(place: Place) -> Place
+pub(crate) fn around(place: LowerCtx) -> LowerCtx
     ensures { result ≡ outside_place place }
 {
-    Place {
+    LowerCtx {
         await_location: Some(AwaitLocation::Unknown),
         ..place
     }
 }
 
 /// The parameters behind `self`, the body, the `let`s, and the coroutine that begins with them.
-#[tactic(auto, unfolding(hir_one_result::specs::Formals::in_function))]
+#[tactic(auto, unfolding(thm_body_result::specs::Formals::in_function))]
 fn in_function<E: LowerEnv>(
     alloc: Global,
     env: &E,
-    place: Place,
+    place: LowerCtx,
     state: &mut StoredBody,
     kind: CoroutineKind,
     skipped: bool,
@@ -49,10 +49,10 @@ fn in_function<E: LowerEnv>(
     receiver: Option<BindingId>,
     params: Option<&ast::ParamList>,
     body: Option<&ast::Expr>,
-) -> Result<InFunction, StoreFault>
+) -> Result<InFunction, StoreError>
     requires { HasSelf state.old.stored receiver }
-    ensures { let at = spot_at (E.answers env.now) place in
-        let formals = (answered_formals (outside_the_body at) bare (option_copied params.entry)).formals in
+    ensures { let at = rctx_at (E.answers env.now) place in
+        let formals = (resolved_formals (outside_the_body at) bare (option_copied params.entry)).formals in
         let read = expr_part at (option_copied body.entry) in
         Lowers HasInFunction (spec.in_function kind skipped receiver formals read) state.old result state.new }
 {
@@ -65,11 +65,11 @@ fn in_function<E: LowerEnv>(
 }
 
 /// The same, where the coroutine owns the bindings that are made in it.
-#[tactic(auto, unfolding(hir_lower_form::specs::Lowering::owning))]
+#[tactic(auto, unfolding(hir_lower_builder::specs::Lowering::owning))]
 fn owned_in_function<E: LowerEnv>(
     alloc: Global,
     env: &E,
-    place: Place,
+    place: LowerCtx,
     state: &mut StoredBody,
     kind: CoroutineKind,
     skipped: bool,
@@ -77,10 +77,10 @@ fn owned_in_function<E: LowerEnv>(
     receiver: Option<BindingId>,
     params: Option<&ast::ParamList>,
     body: Option<&ast::Expr>,
-) -> Result<InFunction, StoreFault>
+) -> Result<InFunction, StoreError>
     requires { HasSelf state.old.stored receiver }
-    ensures { let at = spot_at (E.answers env.now) place in
-        let formals = (answered_formals (outside_the_body at) bare (option_copied params.entry)).formals in
+    ensures { let at = rctx_at (E.answers env.now) place in
+        let formals = (resolved_formals (outside_the_body at) bare (option_copied params.entry)).formals in
         let read = expr_part at (option_copied body.entry) in
         let steps = spec.in_function kind skipped receiver formals read in
         Lowers HasInFunction (owning (λ r. r.1.1) steps) state.old result state.new }
@@ -98,7 +98,7 @@ fn owned_in_function<E: LowerEnv>(
 fn behind_self<E: LowerEnv>(
     alloc: Global,
     env: &E,
-    place: Place,
+    place: LowerCtx,
     state: &mut StoredBody,
     kind: CoroutineKind,
     skipped: bool,
@@ -106,10 +106,10 @@ fn behind_self<E: LowerEnv>(
     receiver: Option<BindingId>,
     params: Option<&ast::ParamList>,
     body: Option<&ast::Expr>,
-) -> Result<(Given, ExprId), StoreFault>
+) -> Result<(Given, ExprId), StoreError>
     requires { HasSelf state.old.stored receiver }
-    ensures { let at = spot_at (E.answers env.now) place in
-        let formals = (answered_formals (outside_the_body at) bare (option_copied params.entry)).formals in
+    ensures { let at = rctx_at (E.answers env.now) place in
+        let formals = (resolved_formals (outside_the_body at) bare (option_copied params.entry)).formals in
         let read = expr_part at (option_copied body.entry) in
         Lowers HasGivenBody (forms.behind_self kind skipped receiver formals read) state.old result state.new }
 {
@@ -128,20 +128,20 @@ fn behind_self<E: LowerEnv>(
 /// ```text
 /// fn f(self, mut made) || { let self = self; let mut made = made; let (y, z) = made; b }
 /// ```
-#[tactic(auto, unfolding(hir_one_result::specs::Formals::coroutine_body, crate::specs::Formals::behind_self))]
+#[tactic(auto, unfolding(thm_body_result::specs::Formals::coroutine_body, crate::specs::Formals::behind_self))]
 pub(crate) fn coroutine_form<E: LowerEnv>(
     alloc: Global,
     env: &E,
-    place: Place,
+    place: LowerCtx,
     state: &mut StoredBody,
     kind: CoroutineKind,
     skipped: bool,
     bare: bool,
     params: Option<&ast::ParamList>,
     body: Option<&ast::Expr>,
-) -> Result<(Given, ExprId), StoreFault>
-    ensures { let at = spot_at (E.answers env.now) place in
-        let formals = answered_formals (outside_the_body at) bare (option_copied params.entry) in
+) -> Result<(Given, ExprId), StoreError>
+    ensures { let at = rctx_at (E.answers env.now) place in
+        let formals = resolved_formals (outside_the_body at) bare (option_copied params.entry) in
         let read = expr_part at (option_copied body.entry) in
         Lowers HasGivenBody (spec.coroutine_body kind skipped formals read) state.old result state.new }
 {

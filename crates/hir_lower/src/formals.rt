@@ -2,26 +2,26 @@
 
 ghost use Rattle.std.specs.Prelude.{◌≡◌, [], Some, true, option_copied};
 ghost use Rattle.hir_store.specs.Range.{HasBindingId, HasPatOption, HasPats};
-ghost use Rattle.hir_env.specs.Formals.{answered_formal, answered_formals, answered_self, are_bare, formal_part, formals_part};
+ghost use Rattle.hir_env.specs.Formals.{resolved_formal, resolved_formals, resolved_self, are_bare, formal_part, formals_part};
 ghost use Rattle.hir_env.specs.Formals.{self_mode, self_use};
 ghost use Rattle.hir_env.specs.Pats.{name_hygiene};
-ghost use Rattle.hir_env.specs.Spot.{in_file, ptr};
+ghost use Rattle.hir_env.specs.ResolveCtx.{in_file, ptr};
 ghost use Rattle.hir_env.specs.Whole.{pat_part};
-ghost use Rattle.hir_lower_form.specs.Lowering.{Lowers, alloc_binding};
-ghost use Rattle.hir_lower_form.specs.Methods.{LowersTop};
-ghost use Rattle.hir_lower_form.specs.Pats.{new_binding};
-ghost use Rattle.hir_lower_handlers.specs.Spots.{spot_at};
+ghost use Rattle.hir_lower_builder.specs.Lowering.{Lowers, alloc_binding};
+ghost use Rattle.hir_lower_builder.specs.Methods.{LowersTop};
+ghost use Rattle.hir_lower_builder.specs.Pats.{new_binding};
+ghost use Rattle.hir_lower_callbacks.specs.ResolveCtxs.{rctx_at};
 ghost use Rattle.hir_lower.specs.Formals.{HasReceived, HasSelf, each_formal, lower_formal, lower_formals, lower_self, self_source};
 
 use hir_base::node::{AstPtr, InFile, NodeId, TextRange};
 use hir_base::{Boxed, Seq, Text};
+use hir_env::ctx::LowerCtx;
 use hir_env::env::LowerEnv;
-use hir_env::place::Place;
-use hir_lower_form::builder::StoredBody;
-use hir_lower_form::parts::site;
-use hir_lower_knot::knot::{bare_top, top_pat};
+use hir_lower_builder::builder::StoredBody;
+use hir_lower_builder::parts::site;
+use hir_lower_recursion::knot::{bare_top, top_pat};
 use hir_store::diagnostics::ExpressionStoreDiagnostics;
-use hir_store::fault::StoreFault;
+use hir_store::error::StoreError;
 use hir_store::hir::{Binding, BindingAnnotation};
 use hir_store::ids::{BindingId, HygieneId, ItemContainerId, PatId};
 use hir_store::lists::push_pat;
@@ -36,7 +36,7 @@ pub(crate) type Received = (Option<BindingId>, Seq<PatId>);
 pub(crate) type Given = (Received, Received);
 
 /// The pointer to a node of the file.
-fn pointer(place: Place, node: NodeId, range: TextRange) -> InFile<AstPtr>
+fn pointer(place: LowerCtx, node: NodeId, range: TextRange) -> InFile<AstPtr>
     ensures { result ≡ in_file place (ptr node range) }
 {
     InFile {
@@ -49,12 +49,12 @@ fn pointer(place: Place, node: NodeId, range: TextRange) -> InFile<AstPtr>
 fn kept_form<E: LowerEnv>(
     alloc: Global,
     env: &E,
-    place: Place,
+    place: LowerCtx,
     state: &mut StoredBody,
     bare: bool,
     part: &Option<Boxed<ast::Pat>>,
-) -> Result<PatId, StoreFault>
-    ensures { let at = spot_at (E.answers env.now) place in
+) -> Result<PatId, StoreError>
+    ensures { let at = rctx_at (E.answers env.now) place in
         LowersTop (formal_part bare (pat_part at part.now)) state.old result state.new }
 {
     if bare {
@@ -68,14 +68,14 @@ fn kept_form<E: LowerEnv>(
 fn formal<E: LowerEnv>(
     alloc: Global,
     env: &E,
-    place: Place,
+    place: LowerCtx,
     state: &mut StoredBody,
     skipped: bool,
     bare: bool,
     node: &ast::Param,
-) -> Result<Option<PatId>, StoreFault>
-    ensures { let at = spot_at (E.answers env.now) place in
-        Lowers HasPatOption (lower_formal skipped (answered_formal at bare node.now)) state.old result state.new }
+) -> Result<Option<PatId>, StoreError>
+    ensures { let at = rctx_at (E.answers env.now) place in
+        Lowers HasPatOption (lower_formal skipped (resolved_formal at bare node.now)) state.old result state.new }
 {
     let at = pointer(place, node.id, node.range);
     match env.cfg(site(at)) {
@@ -97,13 +97,13 @@ fn formal<E: LowerEnv>(
 fn each_form<E: LowerEnv>(
     alloc: Global,
     env: &E,
-    place: Place,
+    place: LowerCtx,
     state: &mut StoredBody,
     skipped: bool,
     bare: bool,
     mut left: &[ast::Param],
-) -> Result<Seq<PatId>, StoreFault>
-    ensures { let at = spot_at (E.answers env.now) place in
+) -> Result<Seq<PatId>, StoreError>
+    ensures { let at = rctx_at (E.answers env.now) place in
         Lowers HasPats (each_formal skipped [] (formals_part at bare left.entry.now)) state.old result state.new }
 {
     let mut pats = Seq::new(alloc);
@@ -128,7 +128,7 @@ fn mode_of_self(is_ref: bool, is_mut: bool) -> BindingAnnotation
 }
 
 /// The hygiene of the name, that of the root where it is absent.
-fn hygiene_of_name<E: LowerEnv>(env: &E, place: Place, name: &Option<ast::Name>) -> HygieneId
+fn hygiene_of_name<E: LowerEnv>(env: &E, place: LowerCtx, name: &Option<ast::Name>) -> HygieneId
     ensures { result ≡ name_hygiene (E.answers env.now) place name.now }
 {
     match name {
@@ -141,11 +141,11 @@ fn hygiene_of_name<E: LowerEnv>(env: &E, place: Place, name: &Option<ast::Name>)
 fn self_binding<E: LowerEnv>(
     alloc: Global,
     env: &E,
-    place: Place,
+    place: LowerCtx,
     state: &mut StoredBody,
     node: &ast::SelfParam,
-) -> Result<BindingId, StoreFault>
-    ensures { let at = spot_at (E.answers env.now) place in
+) -> Result<BindingId, StoreError>
+    ensures { let at = rctx_at (E.answers env.now) place in
         Lowers HasBindingId (alloc_binding (new_binding (self_use at node.now))) state.old result state.new }
 {
     state.alloc_binding(Binding {
@@ -160,11 +160,11 @@ fn self_binding<E: LowerEnv>(
 pub(crate) fn self_form<E: LowerEnv>(
     alloc: Global,
     env: &E,
-    place: Place,
+    place: LowerCtx,
     state: &mut StoredBody,
     part: &Option<ast::SelfParam>,
-) -> Result<Option<BindingId>, StoreFault>
-    ensures { Lowers HasSelf (lower_self (answered_self (spot_at (E.answers env.now) place) part.now)) state.old result state.new }
+) -> Result<Option<BindingId>, StoreError>
+    ensures { Lowers HasSelf (lower_self (resolved_self (rctx_at (E.answers env.now) place) part.now)) state.old result state.new }
 {
     match part {
         None => Ok(None),
@@ -184,11 +184,11 @@ pub(crate) fn self_form<E: LowerEnv>(
 /// The node of a `self` that is kept.
 pub(crate) fn self_node<E: LowerEnv>(
     env: &E,
-    place: Place,
+    place: LowerCtx,
     params: Option<&ast::ParamList>,
 ) -> Option<InFile<AstPtr>>
-    ensures { let at = spot_at (E.answers env.now) place in
-        result ≡ self_source (answered_formals at true (option_copied params.entry)).receiver }
+    ensures { let at = rctx_at (E.answers env.now) place in
+        result ≡ self_source (resolved_formals at true (option_copied params.entry)).receiver }
 {
     match params {
         None => None,
@@ -220,14 +220,14 @@ pub(crate) fn must_be_bare(container: ItemContainerId, has_body: bool) -> bool
 pub(crate) fn pats_form<E: LowerEnv>(
     alloc: Global,
     env: &E,
-    place: Place,
+    place: LowerCtx,
     state: &mut StoredBody,
     skipped: bool,
     bare: bool,
     params: Option<&ast::ParamList>,
-) -> Result<Seq<PatId>, StoreFault>
-    ensures { let at = spot_at (E.answers env.now) place in
-        let formals = (answered_formals at bare (option_copied params.entry)).formals in
+) -> Result<Seq<PatId>, StoreError>
+    ensures { let at = rctx_at (E.answers env.now) place in
+        let formals = (resolved_formals at bare (option_copied params.entry)).formals in
         Lowers HasPats (each_formal skipped [] formals) state.old result state.new }
 {
     match params {
@@ -247,18 +247,18 @@ pub(crate) fn pats_form<E: LowerEnv>(
 }
 
 /// The binding of `self`, and then the patterns of the other parameters that are kept. Those of a skipped body are missing.
-#[tactic(auto, unfolding(hir_one_result::specs::Formals::lower_formals))]
+#[tactic(auto, unfolding(thm_body_result::specs::Formals::lower_formals))]
 pub(crate) fn formals_form<E: LowerEnv>(
     alloc: Global,
     env: &E,
-    place: Place,
+    place: LowerCtx,
     state: &mut StoredBody,
     skipped: bool,
     bare: bool,
     params: Option<&ast::ParamList>,
-) -> Result<Received, StoreFault>
-    ensures { let at = spot_at (E.answers env.now) place in
-        Lowers HasReceived (lower_formals skipped (answered_formals at bare (option_copied params.entry))) state.old result state.new }
+) -> Result<Received, StoreError>
+    ensures { let at = rctx_at (E.answers env.now) place in
+        Lowers HasReceived (lower_formals skipped (resolved_formals at bare (option_copied params.entry))) state.old result state.new }
 {
     match params {
         None => Ok((None, Seq::new(alloc))),

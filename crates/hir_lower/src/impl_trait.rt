@@ -2,19 +2,19 @@
 
 ghost use Rattle.std.specs.Prelude.{◌≡◌, ◌≢◌, Err, IfOk, IsErrOf, None, Option, Some};
 ghost use Rattle.hir_store.specs.Range.{HasBounds};
-ghost use Rattle.hir_env.specs.Spot.{in_file};
-ghost use Rattle.hir_env.specs.declared.place.ImplTrait.{ImplTrait as Mode};
+ghost use Rattle.hir_env.specs.ResolveCtx.{in_file};
+ghost use Rattle.hir_env.specs.declared.ctx.ImplTrait.{ImplTrait as Mode};
 ghost use Rattle.hir_lower.specs.Argument.{ArgumentsAreOne};
 ghost use Rattle.hir_lower.specs.Calls.{Calls};
-ghost use Rattle.hir_lower_form.specs.declared.generics.GenericLists.{GenericLists as AllLists};
+ghost use Rattle.hir_lower_builder.specs.declared.generics.GenericLists.{GenericLists as AllLists};
 ghost use Rattle.hir_lower.specs.Means.{AddsType, NoRoomForImpl, NoRoomForType, RoomForImpl, RoomForType, becomes, lists_behind};
 
 use crate::collector::ExprCollector;
 use crate::error::LowerError;
 use hir_base::node::AstPtr;
+use hir_env::ctx::ImplTrait;
 use hir_env::env::LowerEnv;
-use hir_env::place::ImplTrait;
-use hir_lower_form::generics::GenericLists;
+use hir_lower_builder::generics::GenericLists;
 use hir_store::ids::{GenericDefId, TypeRefId};
 use hir_store::type_ref::{TypeBound, TypeRef};
 use hir_syntax::Seq;
@@ -52,6 +52,7 @@ pub trait ImplTraitLower: ImplTraitMode {
         ensures unchanged { IsErrOf result LowerError.Full → collector.new.state.stored ≡ collector.old.state.stored }
         ensures scopes { result ≢ Err LowerError.Memory → collector.new.state.scopes ≡ collector.old.state.scopes }
         ensures names { result ≢ Err LowerError.Memory → collector.new.state.names ≡ collector.old.state.names }
+        ensures tracks { result ≢ Err LowerError.Memory → collector.new.state.tracks ≡ collector.old.state.tracks }
         ensures db { collector.new.db ≡ collector.old.db }
         ensures place { collector.new.place ≡ collector.old.place };
 }
@@ -147,7 +148,7 @@ impl ImplTraitLower for ArgumentImplTrait<'_> {
 
 /// What `ArgumentImplTrait::lower` stores, answers and adds to its lists is what the walk of an item stores, answers and notes of an `impl`
 /// in an argument: from the same store and behind the same lists each of the two says all of what the other does, and both are refused just
-/// where there is no room for a type or for a parameter, but for memory, and after an error. A law, which does nothing.
+/// where there is no room for a type or for a parameter, except for memory, and after an error. A theorem, which does nothing.
 pub fn arguments_are_one()
     ensures { ArgumentsAreOne }
 {}
@@ -169,6 +170,7 @@ pub fn impl_trait_error_allocator<E: LowerEnv>(
     ensures unchanged { IsErrOf result LowerError.Full → collector.new.state.stored ≡ collector.old.state.stored }
     ensures scopes { result ≢ Err LowerError.Memory → collector.new.state.scopes ≡ collector.old.state.scopes }
     ensures names { result ≢ Err LowerError.Memory → collector.new.state.names ≡ collector.old.state.names }
+    ensures tracks { result ≢ Err LowerError.Memory → collector.new.state.tracks ≡ collector.old.state.tracks }
     ensures db { collector.new.db ≡ collector.old.db }
     ensures place { collector.new.place ≡ collector.old.place }
 {

@@ -2,30 +2,30 @@
 
 ghost use Rattle.std.specs.Prelude.{◌∷◌, []};
 ghost use Rattle.hir_store.specs.Range.{HasPat, HasPats};
-ghost use Rattle.hir_env.specs.Answered as tree;
-ghost use Rattle.hir_env.specs.Whole.{answered_pat, pats_part};
-ghost use Rattle.hir_lower_form.specs.Lower.{lower_later, lower_pat};
-ghost use Rattle.hir_lower_form.specs.Lowering.{Lowers};
-ghost use Rattle.hir_lower_form.specs.Nests.{Each};
-ghost use Rattle.hir_lower_form.specs.Pats as spec;
+ghost use Rattle.hir_env.specs.ResolvedTree as tree;
+ghost use Rattle.hir_env.specs.Whole.{resolved_pat, pats_part};
+ghost use Rattle.hir_lower_builder.specs.Lower.{lower_later, lower_pat};
+ghost use Rattle.hir_lower_builder.specs.Lowering.{Lowers};
+ghost use Rattle.hir_lower_builder.specs.Nests.{Each};
+ghost use Rattle.hir_lower_builder.specs.Pats as spec;
 ghost use Rattle.hir_lower_pat.specs.Bindings.{HasNames, LowersNamed};
 ghost use Rattle.hir_lower_pat.specs.Methods.{LowersLater, LowersPat};
 
 use crate::part::{PatNode, PatPart, PatsPart};
 use hir_base::node::{AstPtr, InFile};
-use hir_lower_form::builder::BodyBuilder;
-use hir_lower_form::storing::Storing;
+use hir_lower_builder::builder::BodyBuilder;
+use hir_lower_builder::store_sink::StoreSink;
 use hir_lower_pat::bindings::Bindings;
 use hir_lower_pat::parts::{Here, PatParts};
-use hir_store::fault::StoreFault;
+use hir_store::error::StoreError;
 use hir_store::hir::Pat;
 use hir_store::ids::PatId;
 use hir_store::lists::push_pat;
 use hir_syntax::{Seq, ast};
 
-#[tactic(auto, unfolding(hir_lower_form::specs::Pats::slice_pat_form))]
+#[tactic(auto, unfolding(hir_lower_builder::specs::Pats::slice_pat_form))]
 #[inline(never)]
-pub(crate) fn slice_form<I: Storing, S: PatParts<I>, L: PatsPart, E: PatPart>(
+pub(crate) fn slice_form<I: StoreSink, S: PatParts<I>, L: PatsPart, E: PatPart>(
     parts: &S,
     state: &mut BodyBuilder<I>,
     bindings: &mut Bindings,
@@ -33,12 +33,12 @@ pub(crate) fn slice_form<I: Storing, S: PatParts<I>, L: PatsPart, E: PatPart>(
     before: &L,
     middle: &E,
     after: &L,
-) -> Result<PatId, StoreFault>
+) -> Result<PatId, StoreError>
     requires before { L.can (S.can_pat parts.now) before.now }
     requires middle { E.can (S.can_pat parts.now) middle.now }
     requires after { L.can (S.can_pat parts.now) after.now }
     requires names { HasNames state.old.stored bindings.old }
-    ensures { let here = S.spot parts.now in
+    ensures { let here = S.rctx parts.now in
         LowersPat (tree.slice_pat at (L.read here before.now) (E.read here middle.now) (L.read here after.now))
         bindings.old state.old result bindings.new state.new }
 {
@@ -54,15 +54,15 @@ pub(crate) fn slice_form<I: Storing, S: PatParts<I>, L: PatsPart, E: PatPart>(
 }
 
 /// The alternative, once the one before has ended.
-fn next<I: Storing, S: PatParts<I>, N: PatNode>(
+fn next<I: StoreSink, S: PatParts<I>, N: PatNode>(
     parts: &S,
     state: &mut BodyBuilder<I>,
     bindings: &mut Bindings,
     node: &N,
-) -> Result<PatId, StoreFault>
+) -> Result<PatId, StoreError>
     requires part { N.can (S.can_pat parts.now) node.now }
     requires names { HasNames state.old.stored bindings.old }
-    ensures { let read = N.read (S.spot parts.now) node.now in
+    ensures { let read = N.read (S.rctx parts.now) node.now in
         LowersNamed HasPat (λ t. lower_pat read (spec.next_alternative t)) bindings.old state.old result bindings.new state.new }
 {
     bindings.next_alternative();
@@ -70,17 +70,17 @@ fn next<I: Storing, S: PatParts<I>, N: PatNode>(
 }
 
 /// The alternatives behind the first.
-fn later<I: Storing, S: PatParts<I>>(
+fn later<I: StoreSink, S: PatParts<I>>(
     parts: &S,
     state: &mut BodyBuilder<I>,
     bindings: &mut Bindings,
     first: PatId,
     mut left: &[ast::Pat],
-) -> Result<Seq<PatId>, StoreFault>
+) -> Result<Seq<PatId>, StoreError>
     requires first { HasPat state.old.stored first }
     requires parts { Each (S.can_pat parts.now) left.now }
     requires names { HasNames state.old.stored bindings.old }
-    ensures { LowersLater (pats_part (S.spot parts.now) left.entry.now) (first ∷ []) bindings.old state.old result bindings.new state.new }
+    ensures { LowersLater (pats_part (S.rctx parts.now) left.entry.now) (first ∷ []) bindings.old state.old result bindings.new state.new }
 {
     let mut done = Seq::new(parts.alloc());
     push_pat(&mut done, first)?;
@@ -93,11 +93,11 @@ fn later<I: Storing, S: PatParts<I>>(
 }
 
 /// One alternative is that one.
-fn one_or_all<I: Storing>(
+fn one_or_all<I: StoreSink>(
     state: &mut BodyBuilder<I>,
     at: InFile<AstPtr>,
     ids: Seq<PatId>,
-) -> Result<PatId, StoreFault>
+) -> Result<PatId, StoreError>
     requires { HasPats state.old.stored ids }
     ensures { Lowers HasPat (spec.or_of at ids) state.old result state.new }
 {
@@ -108,20 +108,20 @@ fn one_or_all<I: Storing>(
 }
 
 /// An or-pattern that has an alternative. Its names are used once in what it stands in.
-#[tactic(auto, unfolding(hir_lower_form::specs::Pats::or_form))]
-fn alternatives<I: Storing, S: PatParts<I>>(
+#[tactic(auto, unfolding(hir_lower_builder::specs::Pats::or_form))]
+fn alternatives<I: StoreSink, S: PatParts<I>>(
     parts: &S,
     state: &mut BodyBuilder<I>,
     bindings: &mut Bindings,
     at: InFile<AstPtr>,
     first: &ast::Pat,
     left: &[ast::Pat],
-) -> Result<PatId, StoreFault>
+) -> Result<PatId, StoreError>
     requires first { S.can_pat parts.now first.now }
     requires parts { Each (S.can_pat parts.now) left.now }
     requires names { HasNames state.old.stored bindings.old }
-    ensures { let here = S.spot parts.now in
-        LowersNamed HasPat (spec.or_form at (lower_pat (answered_pat here first.now)) (lower_later (pats_part here left.now)))
+    ensures { let here = S.rctx parts.now in
+        LowersNamed HasPat (spec.or_form at (lower_pat (resolved_pat here first.now)) (lower_later (pats_part here left.now)))
         bindings.old state.old result bindings.new state.new }
 {
     bindings.enter_or()?;
@@ -134,16 +134,16 @@ fn alternatives<I: Storing, S: PatParts<I>>(
 
 /// Without alternatives it binds nothing.
 #[inline(never)]
-pub(crate) fn or_form<I: Storing, S: PatParts<I>>(
+pub(crate) fn or_form<I: StoreSink, S: PatParts<I>>(
     parts: &S,
     state: &mut BodyBuilder<I>,
     bindings: &mut Bindings,
     at: InFile<AstPtr>,
     all: &Seq<ast::Pat>,
-) -> Result<PatId, StoreFault>
+) -> Result<PatId, StoreError>
     requires parts { Each (S.can_pat parts.now) all.now }
     requires names { HasNames state.old.stored bindings.old }
-    ensures { LowersPat (tree.or_pat at (pats_part (S.spot parts.now) all.now)) bindings.old state.old result bindings.new state.new }
+    ensures { LowersPat (tree.or_pat at (pats_part (S.rctx parts.now) all.now)) bindings.old state.old result bindings.new state.new }
 {
     match all.as_slice() {
         [] => state.alloc_pat(Pat::Or(Seq::new(parts.alloc())), Some(at)),

@@ -4,15 +4,15 @@ ghost use Rattle.std.specs.Prelude.{◌≡◌};
 ghost use Rattle.hir_syntax.specs.declared.pats.PatKind.{out-PatKind};
 ghost use Rattle.hir_binding.specs.declared.binding.BindingAnnotation.TheVariants.{Unannotated};
 ghost use Rattle.hir_store.specs.Range.{HasPat};
-ghost use Rattle.hir_env.specs.Answered as tree;
+ghost use Rattle.hir_env.specs.ResolvedTree as tree;
 ghost use Rattle.hir_env.specs.Answering.{name_written};
 ghost use Rattle.hir_env.specs.Pats.{name_hygiene};
 ghost use Rattle.hir_env.specs.TypePats.{bare_part, bare_pat};
-ghost use Rattle.hir_env.specs.Whole.{answered_pat, pat_part};
-ghost use Rattle.hir_lower_form.specs.Lowering.{Lowers};
-ghost use Rattle.hir_lower_form.specs.Methods.{LowersTop};
-ghost use Rattle.hir_lower_form.specs.Nests.{IfPresent};
-ghost use Rattle.hir_lower_form.specs.Pats.{barred_pat_form};
+ghost use Rattle.hir_env.specs.Whole.{resolved_pat, pat_part};
+ghost use Rattle.hir_lower_builder.specs.Lowering.{Lowers};
+ghost use Rattle.hir_lower_builder.specs.Methods.{LowersTop};
+ghost use Rattle.hir_lower_builder.specs.Nests.{IfPresent};
+ghost use Rattle.hir_lower_builder.specs.Pats.{barred_pat_form};
 ghost use Rattle.hir_lower_pat.specs.Bare.{bare_as, bare_kind, is_bare_ident};
 ghost use Rattle.hir_lower_pat.specs.Bindings.{HasNames};
 ghost use Rattle.hir_lower_pat.specs.Calls.{written_call};
@@ -21,24 +21,24 @@ ghost use Rattle.hir_lower_pat.specs.Methods.{LowersPat, use_with};
 use hir_base::node::{AstPtr, InFile};
 use hir_binding::binding::BindingAnnotation;
 use hir_env::expand::FragmentKind;
-use hir_lower_form::builder::BodyBuilder;
-use hir_lower_form::calls::enter;
-use hir_lower_form::names::name_of;
-use hir_lower_form::parts::{LowerParts, LowerPieces, Lowerer, site};
-use hir_lower_form::storing::Storing;
+use hir_lower_builder::builder::BodyBuilder;
+use hir_lower_builder::calls::enter;
+use hir_lower_builder::names::name_of;
+use hir_lower_builder::parts::{LowerExprs, LowerParts, Lowerer, site};
+use hir_lower_builder::store_sink::StoreSink;
 use hir_lower_pat::bindings::Bindings;
 use hir_lower_pat::calls::pat_of;
 use hir_store::diagnostics::ExpressionStoreDiagnostics;
-use hir_store::fault::StoreFault;
+use hir_store::error::StoreError;
 use hir_store::hir::Pat;
 use hir_store::ids::{HygieneId, PatId};
 use hir_syntax::{Boxed, ast};
 
 /// One that is neither a plain name nor `_` is a fault, and missing.
-fn barred_form<I: Storing>(
+fn barred_form<I: StoreSink>(
     state: &mut BodyBuilder<I>,
     at: InFile<AstPtr>,
-) -> Result<PatId, StoreFault>
+) -> Result<PatId, StoreError>
     ensures { Lowers HasPat (barred_pat_form at) state.old result state.new }
 {
     state.report(ExpressionStoreDiagnostics::PatternArgInExternFn { node: at })?;
@@ -57,7 +57,7 @@ fn is_alone(is_ref: bool, is_mut: bool, part: &Option<Boxed<ast::Pat>>) -> bool
 
 /// The hygiene of a name is that of its node, or the root's where it is absent.
 fn hygiene_of<P: LowerParts>(lowerer: &Lowerer<P>, name: &Option<ast::Name>) -> HygieneId
-    ensures { let at = P.spot lowerer.now.parts in result ≡ name_hygiene at.answers at.place name.now }
+    ensures { let at = P.rctx lowerer.now.parts in result ≡ name_hygiene at.answers at.place name.now }
 {
     match name {
         None => HygieneId::ROOT,
@@ -68,16 +68,16 @@ fn hygiene_of<P: LowerParts>(lowerer: &Lowerer<P>, name: &Option<ast::Name>) -> 
 }
 
 /// A name that binds, whatever it stands for elsewhere.
-#[tactic(auto, unfolding(hir_lower_form::specs::Pats::bind_form))]
-fn plain_name<I: Storing, P: LowerPieces<I>>(
+#[tactic(auto, unfolding(hir_lower_builder::specs::Pats::bind_form))]
+fn plain_name<I: StoreSink, P: LowerExprs<I>>(
     lowerer: &Lowerer<P>,
     state: &mut BodyBuilder<I>,
     bindings: &mut Bindings,
     at: InFile<AstPtr>,
     name: &Option<ast::Name>,
-) -> Result<PatId, StoreFault>
+) -> Result<PatId, StoreError>
     requires { HasNames state.old.stored bindings.old }
-    ensures { let use_ = use_with (P.spot lowerer.now.parts) name.now Unannotated in
+    ensures { let use_ = use_with (P.rctx lowerer.now.parts) name.now Unannotated in
         LowersPat (tree.bind_pat at use_ (name_written name.now) tree.no_pat) bindings.old state.old result bindings.new state.new }
 {
     let hygiene = hygiene_of(lowerer, name);
@@ -91,16 +91,16 @@ fn plain_name<I: Storing, P: LowerPieces<I>>(
 /// A call that is written here: what it stands for, which may only be a plain name or `_` either. Its node leads there.
 #[cycle(bare)]
 #[tactic(auto, using(hir_lower_pat::proofs::BarePats::bare_on))]
-fn bare_call<I: Storing, P: LowerPieces<I>>(
+fn bare_call<I: StoreSink, P: LowerExprs<I>>(
     lowerer: &Lowerer<P>,
     state: &mut BodyBuilder<I>,
     bindings: &mut Bindings,
     at: InFile<AstPtr>,
     call: &ast::MacroCall,
-) -> Result<PatId, StoreFault>
-    requires part { (P.can lowerer.now.parts).pat_call (P.spot lowerer.now.parts).place call.now }
+) -> Result<PatId, StoreError>
+    requires part { (P.can lowerer.now.parts).pat_call (P.rctx lowerer.now.parts).place call.now }
     requires names { HasNames state.old.stored bindings.old }
-    ensures { LowersPat (bare_pat (written_call (P.spot lowerer.now.parts) at call.now))
+    ensures { LowersPat (bare_pat (written_call (P.rctx lowerer.now.parts) at call.now))
         bindings.old state.old result bindings.new state.new }
 {
     let entered = enter(lowerer, state, FragmentKind::Pat, call)?;
@@ -114,15 +114,15 @@ fn bare_call<I: Storing, P: LowerPieces<I>>(
 
 /// The pattern, by its kind.
 #[cycle(bare)]
-fn bare_kind_form<I: Storing, P: LowerPieces<I>>(
+fn bare_kind_form<I: StoreSink, P: LowerExprs<I>>(
     lowerer: &Lowerer<P>,
     state: &mut BodyBuilder<I>,
     bindings: &mut Bindings,
     node: &ast::Pat,
-) -> Result<PatId, StoreFault>
-    requires part { (P.can lowerer.now.parts).pat (P.spot lowerer.now.parts).place node.now }
+) -> Result<PatId, StoreError>
+    requires part { (P.can lowerer.now.parts).pat (P.rctx lowerer.now.parts).place node.now }
     requires names { HasNames state.old.stored bindings.old }
-    ensures { LowersPat (bare_as (P.spot lowerer.now.parts) node.now (bare_kind (out-PatKind node.now.kind)))
+    ensures { LowersPat (bare_as (P.rctx lowerer.now.parts) node.now (bare_kind (out-PatKind node.now.kind)))
         bindings.old state.old result bindings.new state.new }
 {
     let at = lowerer.pointer(node.id, node.range);
@@ -151,27 +151,27 @@ fn bare_kind_form<I: Storing, P: LowerPieces<I>>(
 /// A pattern where only a plain name, which binds whatever it stands for elsewhere, or `_` may stand. Another is a fault and missing.
 #[cycle(bare)]
 #[tactic(auto, using(hir_lower_pat::proofs::BarePats::bare_is))]
-fn bare_form<I: Storing, P: LowerPieces<I>>(
+fn bare_form<I: StoreSink, P: LowerExprs<I>>(
     lowerer: &Lowerer<P>,
     state: &mut BodyBuilder<I>,
     bindings: &mut Bindings,
     node: &ast::Pat,
-) -> Result<PatId, StoreFault>
-    requires part { (P.can lowerer.now.parts).pat (P.spot lowerer.now.parts).place node.now }
+) -> Result<PatId, StoreError>
+    requires part { (P.can lowerer.now.parts).pat (P.rctx lowerer.now.parts).place node.now }
     requires names { HasNames state.old.stored bindings.old }
-    ensures { LowersPat (bare_pat (answered_pat (P.spot lowerer.now.parts) node.now))
+    ensures { LowersPat (bare_pat (resolved_pat (P.rctx lowerer.now.parts) node.now))
         bindings.old state.old result bindings.new state.new }
 {
     bare_kind_form(lowerer, state, bindings, node)
 }
 
-fn whole_bare<I: Storing, P: LowerPieces<I>>(
+fn whole_bare<I: StoreSink, P: LowerExprs<I>>(
     lowerer: &Lowerer<P>,
     state: &mut BodyBuilder<I>,
     node: &ast::Pat,
-) -> Result<PatId, StoreFault>
-    requires { (P.can lowerer.now.parts).pat (P.spot lowerer.now.parts).place node.now }
-    ensures { LowersTop (tree.some_pat (bare_pat (answered_pat (P.spot lowerer.now.parts) node.now))) state.old result state.new }
+) -> Result<PatId, StoreError>
+    requires { (P.can lowerer.now.parts).pat (P.rctx lowerer.now.parts).place node.now }
+    ensures { LowersTop (tree.some_pat (bare_pat (resolved_pat (P.rctx lowerer.now.parts) node.now))) state.old result state.new }
 {
     let mut bindings = Bindings::new(lowerer.alloc);
     let id = bare_form(lowerer, state, &mut bindings, node)?;
@@ -182,13 +182,13 @@ fn whole_bare<I: Storing, P: LowerPieces<I>>(
 /// The pattern of a parameter that may only be a plain name or `_`, missing where it is absent.
 ///
 /// `Full` where an arena has reached its limit; `Memory` where a growth was refused. What was stored by then stays stored.
-pub fn bare_top<I: Storing, P: LowerPieces<I>>(
+pub fn bare_top<I: StoreSink, P: LowerExprs<I>>(
     lowerer: &Lowerer<P>,
     state: &mut BodyBuilder<I>,
     part: &Option<Boxed<ast::Pat>>,
-) -> Result<PatId, StoreFault>
-    requires { IfPresent ((P.can lowerer.now.parts).pat (P.spot lowerer.now.parts).place) part.now }
-    ensures { LowersTop (bare_part (pat_part (P.spot lowerer.now.parts) part.now)) state.old result state.new }
+) -> Result<PatId, StoreError>
+    requires { IfPresent ((P.can lowerer.now.parts).pat (P.rctx lowerer.now.parts).place) part.now }
+    ensures { LowersTop (bare_part (pat_part (P.rctx lowerer.now.parts) part.now)) state.old result state.new }
 {
     match part {
         None => state.missing_pat(),

@@ -1,4 +1,4 @@
-//! Patterns that bind, and what is assigned to.
+//! Patterns that bind, and the assignee expression.
 #![tactic(auto)]
 
 mod alternatives;

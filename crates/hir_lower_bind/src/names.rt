@@ -6,26 +6,26 @@ ghost use Rattle.hir_env.specs.Answering.{name_written};
 ghost use Rattle.hir_env.specs.Pats as of;
 ghost use Rattle.hir_env.specs.TypePats.{is_unannotated};
 ghost use Rattle.hir_env.specs.Whole.{pat_part};
-ghost use Rattle.hir_lower_form.specs.Lower.{present_pat};
-ghost use Rattle.hir_lower_form.specs.Lowering as steps;
-ghost use Rattle.hir_lower_form.specs.Lowering.{Lowers};
-ghost use Rattle.hir_lower_form.specs.Pats as steps_of;
-ghost use Rattle.hir_lower_form.specs.Nests.{IfPresent};
+ghost use Rattle.hir_lower_builder.specs.Lower.{present_pat};
+ghost use Rattle.hir_lower_builder.specs.Lowering as steps;
+ghost use Rattle.hir_lower_builder.specs.Lowering.{Lowers};
+ghost use Rattle.hir_lower_builder.specs.Pats as steps_of;
+ghost use Rattle.hir_lower_builder.specs.Nests.{IfPresent};
 ghost use Rattle.hir_lower_pat.specs.Bindings.{HasNames, LowersNamed};
 ghost use Rattle.hir_lower_pat.specs.Methods.{LowersPat, use_with};
 
 use crate::part::PatPart;
 use hir_base::node::{AstPtr, InFile};
 use hir_binding::binding::BindingAnnotation;
-use hir_env::resolved::{Resolution, Shadow};
-use hir_lower_form::builder::BodyBuilder;
-use hir_lower_form::names::name_of;
-use hir_lower_form::parts::site;
-use hir_lower_form::storing::Storing;
+use hir_env::resolved::{BuiltinShadowMode, Resolution};
+use hir_lower_builder::builder::BodyBuilder;
+use hir_lower_builder::names::name_of;
+use hir_lower_builder::parts::site;
+use hir_lower_builder::store_sink::StoreSink;
 use hir_lower_pat::bindings::Bindings;
 use hir_lower_pat::parts::{Here, PatParts};
 use hir_lower_pat::paths::path_of_name;
-use hir_store::fault::StoreFault;
+use hir_store::error::StoreError;
 use hir_store::hir::Pat;
 use hir_store::ids::{HygieneId, PatId};
 use hir_store::name::Name;
@@ -57,7 +57,7 @@ pub(crate) fn is_without_words(mode: BindingAnnotation) -> bool
 
 /// The hygiene of a name is that of its node, or the root's where it is absent.
 pub(crate) fn hygiene_of<H: Here>(parts: &H, name: &Option<ast::Name>) -> HygieneId
-    ensures { let at = H.spot parts.now in result ≡ of.name_hygiene at.answers at.place name.now }
+    ensures { let at = H.rctx parts.now in result ≡ of.name_hygiene at.answers at.place name.now }
 {
     match name {
         None => HygieneId::ROOT,
@@ -76,20 +76,20 @@ fn is_constant(values: Option<Resolution>) -> bool
 
 /// Whether a plain name stands for a constant, a variant or a struct, so that it doesn't bind.
 fn is_found<H: Here>(parts: &H, name: &Name) -> Result<bool, AllocError>
-    ensures { let at = H.spot parts.now in IfOk result (λ found. found ≡ of.is_found at.answers at.place name.now) }
+    ensures { let at = H.rctx parts.now in IfOk result (λ found. found ≡ of.is_found at.answers at.place name.now) }
 {
     let path = path_of_name(parts.alloc(), name.clone()?)?;
-    Ok(is_constant(parts.resolve(&path, Shadow::Other).values))
+    Ok(is_constant(parts.resolve(&path, BuiltinShadowMode::Other).values))
 }
 
 /// A name that stands for something else is a path.
 #[inline(never)]
-fn name_form<I: Storing>(
+fn name_form<I: StoreSink>(
     alloc: Global,
     state: &mut BodyBuilder<I>,
     at: InFile<AstPtr>,
     name: Name,
-) -> Result<PatId, StoreFault>
+) -> Result<PatId, StoreError>
     ensures { Lowers HasPat (steps.alloc_pat (steps_of.path_of_name name) (Some at)) state.old result state.new }
 {
     let path = Path::BarePath(path_of_name(alloc, name)?);
@@ -98,9 +98,9 @@ fn name_form<I: Storing>(
 }
 
 /// A name that binds, behind what stands after its `@`.
-#[tactic(auto, unfolding(hir_lower_form::specs::Pats::bind_form))]
+#[tactic(auto, unfolding(hir_lower_builder::specs::Pats::bind_form))]
 #[inline(never)]
-fn bind_form<I: Storing, S: PatParts<I>, E: PatPart>(
+fn bind_form<I: StoreSink, S: PatParts<I>, E: PatPart>(
     parts: &S,
     state: &mut BodyBuilder<I>,
     bindings: &mut Bindings,
@@ -109,10 +109,10 @@ fn bind_form<I: Storing, S: PatParts<I>, E: PatPart>(
     hygiene: HygieneId,
     mode: BindingAnnotation,
     part: &E,
-) -> Result<PatId, StoreFault>
+) -> Result<PatId, StoreError>
     requires part { E.can (S.can_pat parts.now) part.now }
     requires names { HasNames state.old.stored bindings.old }
-    ensures { let inner = present_pat (E.read (S.spot parts.now) part.now) in
+    ensures { let inner = present_pat (E.read (S.rctx parts.now) part.now) in
         LowersNamed HasPat (steps_of.bind_form at (record { name = name; hygiene = hygiene; mode = mode }) inner)
         bindings.old state.old result bindings.new state.new }
 {
@@ -125,7 +125,7 @@ fn bind_form<I: Storing, S: PatParts<I>, E: PatPart>(
 
 /// A plain name that stands for a constant, a variant or a struct is a path, and any other name binds.
 #[inline(never)]
-pub(crate) fn ident_form<I: Storing, S: PatParts<I>>(
+pub(crate) fn ident_form<I: StoreSink, S: PatParts<I>>(
     parts: &S,
     state: &mut BodyBuilder<I>,
     bindings: &mut Bindings,
@@ -133,10 +133,10 @@ pub(crate) fn ident_form<I: Storing, S: PatParts<I>>(
     name: &Option<ast::Name>,
     mode: BindingAnnotation,
     part: &Option<Boxed<ast::Pat>>,
-) -> Result<PatId, StoreFault>
+) -> Result<PatId, StoreError>
     requires part { IfPresent (S.can_pat parts.now) part.now }
     requires names { HasNames state.old.stored bindings.old }
-    ensures { let here = S.spot parts.now in
+    ensures { let here = S.rctx parts.now in
         let use_ = use_with here name.now mode in
         LowersPat (of.ident_pat here.answers here.place at use_ (name_written name.now) (pat_part here part.now))
         bindings.old state.old result bindings.new state.new }

@@ -1,10 +1,10 @@
 //! A pattern, by its kind.
 
 ghost use Rattle.hir_syntax.specs.declared.pats.PatKind.{out-PatKind};
-ghost use Rattle.hir_env.specs.Answered as tree;
+ghost use Rattle.hir_env.specs.ResolvedTree as tree;
 ghost use Rattle.hir_env.specs.Paths.{mutability};
-ghost use Rattle.hir_env.specs.Whole.{answered_pat, pat_level};
-ghost use Rattle.hir_lower_form.specs.Nests.{KidsOfPat};
+ghost use Rattle.hir_env.specs.Whole.{resolved_pat, pat_level};
+ghost use Rattle.hir_lower_builder.specs.Nests.{KidsOfPat};
 ghost use Rattle.hir_lower_pat.specs.Bindings.{HasNames};
 ghost use Rattle.hir_lower_pat.specs.Calls.{written_call};
 ghost use Rattle.hir_lower_pat.specs.Methods.{AnyCall, IsUncalled, LowersElement, LowersPat};
@@ -17,32 +17,32 @@ use crate::records::record_form;
 use crate::tuples::{tuple_form, tuple_struct_form};
 use hir_base::node::{AstPtr, InFile};
 use hir_env::expand::FragmentKind;
-use hir_lower_form::builder::{BodyBuilder, StoredBody};
-use hir_lower_form::calls::enter;
-use hir_lower_form::parts::{LowerPieces, Lowerer};
-use hir_lower_form::storing::Storing;
+use hir_lower_builder::builder::{BodyBuilder, StoredBody};
+use hir_lower_builder::calls::enter;
+use hir_lower_builder::parts::{LowerExprs, Lowerer};
+use hir_lower_builder::store_sink::StoreSink;
 use hir_lower_pat::bindings::Bindings;
 use hir_lower_pat::calls::{missing_form, pat_of, point_element};
 use hir_lower_pat::parts::{Here, Inside, PatBy, PatParts};
 use hir_store::builder::ExpressionStoreBuilder;
-use hir_store::fault::StoreFault;
+use hir_store::error::StoreError;
 use hir_store::hir::{Mutability, Pat};
 use hir_store::ids::PatId;
 use hir_syntax::ast;
 
-#[tactic(auto, unfolding(hir_lower_form::specs::Pats::over_pat_form))]
+#[tactic(auto, unfolding(hir_lower_builder::specs::Pats::over_pat_form))]
 #[inline(never)]
-fn ref_form<I: Storing, S: PatParts<I>, E: PatPart>(
+fn ref_form<I: StoreSink, S: PatParts<I>, E: PatPart>(
     parts: &S,
     state: &mut BodyBuilder<I>,
     bindings: &mut Bindings,
     at: InFile<AstPtr>,
     is_mut: bool,
     part: &E,
-) -> Result<PatId, StoreFault>
+) -> Result<PatId, StoreError>
     requires part { E.can (S.can_pat parts.now) part.now }
     requires names { HasNames state.old.stored bindings.old }
-    ensures { LowersPat (tree.over_pat at (tree.ref_to (mutability is_mut)) (E.read (S.spot parts.now) part.now))
+    ensures { LowersPat (tree.over_pat at (tree.ref_to (mutability is_mut)) (E.read (S.rctx parts.now) part.now))
         bindings.old state.old result bindings.new state.new }
 {
     let pat = part.lower(parts, state, bindings)?;
@@ -54,36 +54,36 @@ fn ref_form<I: Storing, S: PatParts<I>, E: PatPart>(
     state.alloc_pat(Pat::Ref { mutability, pat }, Some(at))
 }
 
-#[tactic(auto, unfolding(hir_lower_form::specs::Pats::over_pat_form))]
+#[tactic(auto, unfolding(hir_lower_builder::specs::Pats::over_pat_form))]
 #[inline(never)]
-fn box_form<I: Storing, S: PatParts<I>, E: PatPart>(
+fn box_form<I: StoreSink, S: PatParts<I>, E: PatPart>(
     parts: &S,
     state: &mut BodyBuilder<I>,
     bindings: &mut Bindings,
     at: InFile<AstPtr>,
     part: &E,
-) -> Result<PatId, StoreFault>
+) -> Result<PatId, StoreError>
     requires part { E.can (S.can_pat parts.now) part.now }
     requires names { HasNames state.old.stored bindings.old }
-    ensures { LowersPat (tree.over_pat at tree.box_of (E.read (S.spot parts.now) part.now))
+    ensures { LowersPat (tree.over_pat at tree.box_of (E.read (S.rctx parts.now) part.now))
         bindings.old state.old result bindings.new state.new }
 {
     let inner = part.lower(parts, state, bindings)?;
     state.alloc_pat(Pat::Box { inner }, Some(at))
 }
 
-#[tactic(auto, unfolding(hir_lower_form::specs::Pats::over_pat_form))]
+#[tactic(auto, unfolding(hir_lower_builder::specs::Pats::over_pat_form))]
 #[inline(never)]
-fn deref_form<I: Storing, S: PatParts<I>, E: PatPart>(
+fn deref_form<I: StoreSink, S: PatParts<I>, E: PatPart>(
     parts: &S,
     state: &mut BodyBuilder<I>,
     bindings: &mut Bindings,
     at: InFile<AstPtr>,
     part: &E,
-) -> Result<PatId, StoreFault>
+) -> Result<PatId, StoreError>
     requires part { E.can (S.can_pat parts.now) part.now }
     requires names { HasNames state.old.stored bindings.old }
-    ensures { LowersPat (tree.over_pat at tree.deref_of (E.read (S.spot parts.now) part.now))
+    ensures { LowersPat (tree.over_pat at tree.deref_of (E.read (S.rctx parts.now) part.now))
         bindings.old state.old result bindings.new state.new }
 {
     let inner = part.lower(parts, state, bindings)?;
@@ -92,16 +92,16 @@ fn deref_form<I: Storing, S: PatParts<I>, E: PatPart>(
 
 /// The form of a pattern that is no call. One whose parts know of no name is made by itself.
 #[tactic(auto, using(hir_lower_pat::proofs::KindLemmas::plain_is_alone))]
-pub(crate) fn pat_form<I: Storing, S: PatParts<I>>(
+pub(crate) fn pat_form<I: StoreSink, S: PatParts<I>>(
     parts: &S,
     state: &mut BodyBuilder<I>,
     bindings: &mut Bindings,
     node: &ast::Pat,
-) -> Result<PatId, StoreFault>
+) -> Result<PatId, StoreError>
     requires uncalled { IsUncalled (out-PatKind node.now.kind) }
     requires parts { KidsOfPat (S.can_pat parts.now) (S.can_path parts.now) AnyCall (out-PatKind node.now.kind) }
     requires names { HasNames state.old.stored bindings.old }
-    ensures { LowersPat (pat_level (S.spot parts.now) node.now) bindings.old state.old result bindings.new state.new }
+    ensures { LowersPat (pat_level (S.rctx parts.now) node.now) bindings.old state.old result bindings.new state.new }
 {
     let at = parts.pointer(node.id, node.range);
     match &node.kind {
@@ -148,16 +148,16 @@ pub(crate) fn pat_form<I: Storing, S: PatParts<I>>(
 /// A call that is written here: what it stands for, which is missing where it stands for no pattern. Its node leads there.
 #[cycle(pat)]
 #[inline(never)]
-fn called_pat<P: LowerPieces<ExpressionStoreBuilder>>(
+fn called_pat<P: LowerExprs<ExpressionStoreBuilder>>(
     lowerer: &Lowerer<P>,
     state: &mut StoredBody,
     bindings: &mut Bindings,
     at: InFile<AstPtr>,
     call: &ast::MacroCall,
-) -> Result<PatId, StoreFault>
-    requires part { (P.can lowerer.now.parts).pat_call (P.spot lowerer.now.parts).place call.now }
+) -> Result<PatId, StoreError>
+    requires part { (P.can lowerer.now.parts).pat_call (P.rctx lowerer.now.parts).place call.now }
     requires names { HasNames state.old.stored bindings.old }
-    ensures { LowersPat (written_call (P.spot lowerer.now.parts) at call.now) bindings.old state.old result bindings.new state.new }
+    ensures { LowersPat (written_call (P.rctx lowerer.now.parts) at call.now) bindings.old state.old result bindings.new state.new }
 {
     let entered = enter(lowerer, state, FragmentKind::Pat, call)?;
     let pat = match pat_of(entered) {
@@ -171,16 +171,16 @@ fn called_pat<P: LowerPieces<ExpressionStoreBuilder>>(
 /// The same as an element, none where it stands for two dots, to which it doesn't lead.
 #[cycle(pat)]
 #[inline(never)]
-fn called_element<P: LowerPieces<ExpressionStoreBuilder>>(
+fn called_element<P: LowerExprs<ExpressionStoreBuilder>>(
     lowerer: &Lowerer<P>,
     state: &mut StoredBody,
     bindings: &mut Bindings,
     at: InFile<AstPtr>,
     call: &ast::MacroCall,
-) -> Result<Option<PatId>, StoreFault>
-    requires part { (P.can lowerer.now.parts).pat_call (P.spot lowerer.now.parts).place call.now }
+) -> Result<Option<PatId>, StoreError>
+    requires part { (P.can lowerer.now.parts).pat_call (P.rctx lowerer.now.parts).place call.now }
     requires names { HasNames state.old.stored bindings.old }
-    ensures { LowersElement (written_call (P.spot lowerer.now.parts) at call.now) bindings.old state.old result bindings.new state.new }
+    ensures { LowersElement (written_call (P.rctx lowerer.now.parts) at call.now) bindings.old state.old result bindings.new state.new }
 {
     let entered = enter(lowerer, state, FragmentKind::Pat, call)?;
     match pat_of(entered) {
@@ -194,15 +194,15 @@ fn called_element<P: LowerPieces<ExpressionStoreBuilder>>(
 
 /// An element of a tuple or a call, none where it is two dots. A call that the text lacks is missing at its own node here.
 #[cycle(pat)]
-fn lower_element<P: LowerPieces<ExpressionStoreBuilder>>(
+fn lower_element<P: LowerExprs<ExpressionStoreBuilder>>(
     lowerer: &Lowerer<P>,
     state: &mut StoredBody,
     bindings: &mut Bindings,
     node: &ast::Pat,
-) -> Result<Option<PatId>, StoreFault>
-    requires part { (P.can lowerer.now.parts).pat (P.spot lowerer.now.parts).place node.now }
+) -> Result<Option<PatId>, StoreError>
+    requires part { (P.can lowerer.now.parts).pat (P.rctx lowerer.now.parts).place node.now }
     requires names { HasNames state.old.stored bindings.old }
-    ensures { LowersElement (answered_pat (P.spot lowerer.now.parts) node.now) bindings.old state.old result bindings.new state.new }
+    ensures { LowersElement (resolved_pat (P.rctx lowerer.now.parts) node.now) bindings.old state.old result bindings.new state.new }
 {
     let at = lowerer.pointer(node.id, node.range);
     match &node.kind {
@@ -220,15 +220,15 @@ fn lower_element<P: LowerPieces<ExpressionStoreBuilder>>(
 /// `Full` where an arena has reached its limit, or more parts than are counted stand in front of two dots; `Memory` where a growth
 /// was refused.
 #[cycle(pat)]
-pub fn lower_pat<P: LowerPieces<ExpressionStoreBuilder>>(
+pub fn lower_pat<P: LowerExprs<ExpressionStoreBuilder>>(
     lowerer: &Lowerer<P>,
     state: &mut StoredBody,
     bindings: &mut Bindings,
     node: &ast::Pat,
-) -> Result<PatId, StoreFault>
-    requires part { (P.can lowerer.now.parts).pat (P.spot lowerer.now.parts).place node.now }
+) -> Result<PatId, StoreError>
+    requires part { (P.can lowerer.now.parts).pat (P.rctx lowerer.now.parts).place node.now }
     requires names { HasNames state.old.stored bindings.old }
-    ensures { LowersPat (answered_pat (P.spot lowerer.now.parts) node.now) bindings.old state.old result bindings.new state.new }
+    ensures { LowersPat (resolved_pat (P.rctx lowerer.now.parts) node.now) bindings.old state.old result bindings.new state.new }
 {
     match &node.kind {
         ast::PatKind::MacroPat { call } => match call {

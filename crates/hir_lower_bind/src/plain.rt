@@ -2,34 +2,34 @@
 
 ghost use Rattle.hir_syntax.specs.declared.pats.PatKind.{out-PatKind};
 ghost use Rattle.hir_store.specs.Range.{HasPat};
-ghost use Rattle.hir_lower_form.specs.Lower.{lower_path};
-ghost use Rattle.hir_lower_form.specs.Lowering.{Lowers};
-ghost use Rattle.hir_lower_form.specs.Nests.{KidsOfPat};
-ghost use Rattle.hir_lower_form.specs.Pats as spec;
+ghost use Rattle.hir_lower_builder.specs.Lower.{lower_path};
+ghost use Rattle.hir_lower_builder.specs.Lowering.{Lowers};
+ghost use Rattle.hir_lower_builder.specs.Nests.{KidsOfPat};
+ghost use Rattle.hir_lower_builder.specs.Pats as spec;
 ghost use Rattle.hir_lower_pat.specs.Methods.{AnyCall, IsPlain, kind_at, lower_plain};
 
 use crate::sides::{literal_form, predicate_form, range_form};
 use hir_base::node::{AstPtr, InFile};
-use hir_lower_form::builder::BodyBuilder;
-use hir_lower_form::storing::Storing;
+use hir_lower_builder::builder::BodyBuilder;
+use hir_lower_builder::store_sink::StoreSink;
 use hir_lower_pat::parts::{HerePaths, PatParts};
 use hir_lower_pat::paths::PathPart;
-use hir_store::fault::StoreFault;
+use hir_store::error::StoreError;
 use hir_store::hir::Pat;
 use hir_store::ids::{HygieneId, PatId};
 use hir_syntax::ast;
 
 /// A path that is absent or refused is missing.
-#[tactic(auto, unfolding(hir_lower_form::specs::Pats::path_pat_form))]
+#[tactic(auto, unfolding(hir_lower_builder::specs::Pats::path_pat_form))]
 #[inline(never)]
-fn path_form<I: Storing, H: HerePaths<I>, W: PathPart>(
+fn path_form<I: StoreSink, H: HerePaths<I>, W: PathPart>(
     parts: &H,
     state: &mut BodyBuilder<I>,
     at: InFile<AstPtr>,
     path: &W,
-) -> Result<PatId, StoreFault>
+) -> Result<PatId, StoreError>
     requires { W.can (H.can_path parts.now) path.now }
-    ensures { Lowers HasPat (spec.path_pat_form at (lower_path (W.read (H.spot parts.now) path.now))) state.old result state.new }
+    ensures { Lowers HasPat (spec.path_pat_form at (lower_path (W.read (H.rctx parts.now) path.now))) state.old result state.new }
 {
     match parts.path(state, path)? {
         None => state.alloc_pat(Pat::Missing, Some(at)),
@@ -43,15 +43,15 @@ fn path_form<I: Storing, H: HerePaths<I>, W: PathPart>(
 /// A pattern that knows of no name.
 #[tactic(auto, using(hir_lower_pat::proofs::KindLemmas::only_plain))]
 #[inline(never)]
-pub(crate) fn plain_kind<I: Storing, S: PatParts<I>>(
+pub(crate) fn plain_kind<I: StoreSink, S: PatParts<I>>(
     parts: &S,
     state: &mut BodyBuilder<I>,
     at: InFile<AstPtr>,
     kind: &ast::PatKind,
-) -> Result<PatId, StoreFault>
+) -> Result<PatId, StoreError>
     requires plain { IsPlain (out-PatKind kind.now) }
     requires parts { KidsOfPat (S.can_pat parts.now) (S.can_path parts.now) AnyCall (out-PatKind kind.now) }
-    ensures { Lowers HasPat (lower_plain (kind_at (S.spot parts.now) at kind.now)) state.old result state.new }
+    ensures { Lowers HasPat (lower_plain (kind_at (S.rctx parts.now) at kind.now)) state.old result state.new }
 {
     match kind {
         ast::PatKind::PathPat { path } => path_form(parts, state, at, path),

@@ -4,27 +4,27 @@ ghost use Rattle.std.specs.Prelude.{[], Some};
 ghost use Rattle.hir_syntax.specs.declared.pats.Pat.{Pat as AstPat};
 ghost use Rattle.hir_syntax.specs.declared.pats.RecordPatField.{out-RecordPatField};
 ghost use Rattle.hir_store.specs.Range.{HasPat, HasPath};
-ghost use Rattle.hir_env.specs.Answered as tree;
-ghost use Rattle.hir_env.specs.Answered.{PatFields};
-ghost use Rattle.hir_env.specs.Spot.{Spot};
-ghost use Rattle.hir_env.specs.Whole.{answered_pat_field, pat_field_level, pat_fields_part};
-ghost use Rattle.hir_lower_form.specs.Lower.{lower_pat, lower_pat_fields};
-ghost use Rattle.hir_lower_form.specs.Lowering.{Lowers};
-ghost use Rattle.hir_lower_form.specs.Nests.{IfPresent, KidsPatFields};
-ghost use Rattle.hir_lower_form.specs.Pats as spec;
+ghost use Rattle.hir_env.specs.ResolvedTree as tree;
+ghost use Rattle.hir_env.specs.ResolvedTree.{PatFields};
+ghost use Rattle.hir_env.specs.ResolveCtx.{ResolveCtx};
+ghost use Rattle.hir_env.specs.Whole.{resolved_pat_field, pat_field_level, pat_fields_part};
+ghost use Rattle.hir_lower_builder.specs.Lower.{lower_pat, lower_pat_fields};
+ghost use Rattle.hir_lower_builder.specs.Lowering.{Lowers};
+ghost use Rattle.hir_lower_builder.specs.Nests.{IfPresent, KidsPatFields};
+ghost use Rattle.hir_lower_builder.specs.Pats as spec;
 ghost use Rattle.hir_lower_pat.specs.Bindings.{HasNames, LowersNamed};
 ghost use Rattle.hir_lower_pat.specs.Methods.{HasPatField, LowersPat, LowersPatField, LowersPatFields, field_name};
 
 use crate::part::PatNode;
 use hir_base::node::{AstPtr, InFile};
-use hir_lower_form::builder::BodyBuilder;
-use hir_lower_form::parts::site;
-use hir_lower_form::storing::Storing;
+use hir_lower_builder::builder::BodyBuilder;
+use hir_lower_builder::parts::site;
+use hir_lower_builder::store_sink::StoreSink;
 use hir_lower_pat::bindings::Bindings;
 use hir_lower_pat::parts::{Here, PatParts};
 use hir_lower_pat::paths::PathPart;
 use hir_store::diagnostics::ExpressionStoreDiagnostics;
-use hir_store::fault::StoreFault;
+use hir_store::error::StoreError;
 use hir_store::hir::{Pat, RecordFieldPat};
 use hir_store::ids::PatId;
 use hir_store::lists::push_pat_field;
@@ -33,12 +33,12 @@ use hir_store::path::Path;
 use hir_syntax::{Seq, ast};
 
 /// A field with a name, whose part leads to it. One without is no part of the record.
-fn named_part<I: Storing>(
+fn named_part<I: StoreSink>(
     state: &mut BodyBuilder<I>,
     at: InFile<AstPtr>,
     name: &Option<ast::Name>,
     pat: PatId,
-) -> Result<Option<RecordFieldPat>, StoreFault>
+) -> Result<Option<RecordFieldPat>, StoreError>
     requires { HasPat state.old.stored pat }
     ensures { Lowers HasPatField (spec.named_part at (field_name name.now) pat) state.old result state.new }
 {
@@ -53,18 +53,18 @@ fn named_part<I: Storing>(
 }
 
 /// A field with its part.
-#[tactic(auto, unfolding(hir_lower_form::specs::Pats::pat_field_form))]
-fn present_field<I: Storing, S: PatParts<I>, N: PatNode>(
+#[tactic(auto, unfolding(hir_lower_builder::specs::Pats::pat_field_form))]
+fn present_field<I: StoreSink, S: PatParts<I>, N: PatNode>(
     parts: &S,
     state: &mut BodyBuilder<I>,
     bindings: &mut Bindings,
     at: InFile<AstPtr>,
     name: &Option<ast::Name>,
     part: &N,
-) -> Result<Option<RecordFieldPat>, StoreFault>
+) -> Result<Option<RecordFieldPat>, StoreError>
     requires part { N.can (S.can_pat parts.now) part.now }
     requires names { HasNames state.old.stored bindings.old }
-    ensures { let read = N.read (S.spot parts.now) part.now in
+    ensures { let read = N.read (S.rctx parts.now) part.now in
         LowersNamed HasPatField (spec.pat_field_form at (field_name name.now) (lower_pat read))
         bindings.old state.old result bindings.new state.new }
 {
@@ -74,15 +74,15 @@ fn present_field<I: Storing, S: PatParts<I>, N: PatNode>(
 
 /// The field, none where a condition disables it, or it has no part or no name.
 #[inline(never)]
-fn field_form<I: Storing, S: PatParts<I>>(
+fn field_form<I: StoreSink, S: PatParts<I>>(
     parts: &S,
     state: &mut BodyBuilder<I>,
     bindings: &mut Bindings,
     node: &ast::RecordPatField,
-) -> Result<Option<RecordFieldPat>, StoreFault>
+) -> Result<Option<RecordFieldPat>, StoreError>
     requires part { IfPresent (S.can_pat parts.now) (out-RecordPatField node.now).pat }
     requires names { HasNames state.old.stored bindings.old }
-    ensures { LowersPatField (pat_field_level (S.spot parts.now) node.now) bindings.old state.old result bindings.new state.new }
+    ensures { LowersPatField (pat_field_level (S.rctx parts.now) node.now) bindings.old state.old result bindings.new state.new }
 {
     let at = parts.pointer(node.id, node.range);
     match parts.cfg(site(at)) {
@@ -97,15 +97,15 @@ fn field_form<I: Storing, S: PatParts<I>>(
     }
 }
 
-fn field<I: Storing, S: PatParts<I>>(
+fn field<I: StoreSink, S: PatParts<I>>(
     parts: &S,
     state: &mut BodyBuilder<I>,
     bindings: &mut Bindings,
     node: &ast::RecordPatField,
-) -> Result<Option<RecordFieldPat>, StoreFault>
+) -> Result<Option<RecordFieldPat>, StoreError>
     requires part { IfPresent (S.can_pat parts.now) (out-RecordPatField node.now).pat }
     requires names { HasNames state.old.stored bindings.old }
-    ensures { LowersPatField (answered_pat_field (S.spot parts.now) node.now) bindings.old state.old result bindings.new state.new }
+    ensures { LowersPatField (resolved_pat_field (S.rctx parts.now) node.now) bindings.old state.old result bindings.new state.new }
 {
     field_form(parts, state, bindings, node)
 }
@@ -114,18 +114,18 @@ fn field<I: Storing, S: PatParts<I>>(
 pub trait PatFieldsPart {
     ghost can: { (AstPat → Type 0) → Self → Type 0 };
 
-    ghost read: { Spot → Self → PatFields };
+    ghost read: { ResolveCtx → Self → PatFields };
 
     /// The fields that no condition disables and that have a name and a part.
-    fn lower_fields<I: Storing, S: PatParts<I>>(
+    fn lower_fields<I: StoreSink, S: PatParts<I>>(
         &self,
         parts: &S,
         state: &mut BodyBuilder<I>,
         bindings: &mut Bindings,
-    ) -> Result<Seq<RecordFieldPat>, StoreFault>
+    ) -> Result<Seq<RecordFieldPat>, StoreError>
         requires parts { can (S.can_pat parts.now) self.now }
         requires names { HasNames state.old.stored bindings.old }
-        ensures { LowersPatFields (read (S.spot parts.now) self.now) bindings.old state.old result bindings.new state.new };
+        ensures { LowersPatFields (read (S.rctx parts.now) self.now) bindings.old state.old result bindings.new state.new };
 }
 
 impl PatFieldsPart for Seq<ast::RecordPatField> {
@@ -133,12 +133,12 @@ impl PatFieldsPart for Seq<ast::RecordPatField> {
 
     ghost read = { pat_fields_part };
 
-    fn lower_fields<I: Storing, S: PatParts<I>>(
+    fn lower_fields<I: StoreSink, S: PatParts<I>>(
         &self,
         parts: &S,
         state: &mut BodyBuilder<I>,
         bindings: &mut Bindings,
-    ) -> Result<Seq<RecordFieldPat>, StoreFault> {
+    ) -> Result<Seq<RecordFieldPat>, StoreError> {
         let mut done = Seq::new(parts.alloc());
         let mut left = self.as_slice();
         while let [one, rest @ ..] = left {
@@ -152,7 +152,7 @@ impl PatFieldsPart for Seq<ast::RecordPatField> {
 }
 
 /// A record of this path.
-fn record_of<I: Storing, S: PatParts<I>, L: PatFieldsPart>(
+fn record_of<I: StoreSink, S: PatParts<I>, L: PatFieldsPart>(
     parts: &S,
     state: &mut BodyBuilder<I>,
     bindings: &mut Bindings,
@@ -160,11 +160,11 @@ fn record_of<I: Storing, S: PatParts<I>, L: PatFieldsPart>(
     path: Path,
     written: &L,
     ellipsis: bool,
-) -> Result<PatId, StoreFault>
+) -> Result<PatId, StoreError>
     requires path { HasPath state.old.stored path }
     requires parts { L.can (S.can_pat parts.now) written.now }
     requires names { HasNames state.old.stored bindings.old }
-    ensures { let read = lower_pat_fields [] (L.read (S.spot parts.now) written.now) in
+    ensures { let read = lower_pat_fields [] (L.read (S.rctx parts.now) written.now) in
         LowersNamed HasPat (spec.record_pat_of at ellipsis read (Some path)) bindings.old state.old result bindings.new state.new }
 {
     let args = written.lower_fields(parts, state, bindings)?;
@@ -177,9 +177,9 @@ fn record_of<I: Storing, S: PatParts<I>, L: PatFieldsPart>(
 }
 
 /// Where the path is absent or refused the record is missing, and nothing else of it is read.
-#[tactic(auto, unfolding(hir_lower_form::specs::Pats::record_pat_form))]
+#[tactic(auto, unfolding(hir_lower_builder::specs::Pats::record_pat_form))]
 #[inline(never)]
-pub(crate) fn record_form<I: Storing, S: PatParts<I>, W: PathPart, L: PatFieldsPart>(
+pub(crate) fn record_form<I: StoreSink, S: PatParts<I>, W: PathPart, L: PatFieldsPart>(
     parts: &S,
     state: &mut BodyBuilder<I>,
     bindings: &mut Bindings,
@@ -187,11 +187,11 @@ pub(crate) fn record_form<I: Storing, S: PatParts<I>, W: PathPart, L: PatFieldsP
     path: &W,
     written: &L,
     rest: bool,
-) -> Result<PatId, StoreFault>
+) -> Result<PatId, StoreError>
     requires path { W.can (S.can_path parts.now) path.now }
     requires parts { L.can (S.can_pat parts.now) written.now }
     requires names { HasNames state.old.stored bindings.old }
-    ensures { let here = S.spot parts.now in
+    ensures { let here = S.rctx parts.now in
         LowersPat (tree.record_pat at (W.read here path.now) (L.read here written.now) rest)
         bindings.old state.old result bindings.new state.new }
 {

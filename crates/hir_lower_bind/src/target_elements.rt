@@ -3,28 +3,28 @@
 ghost use Rattle.std.specs.Prelude.{[], None, Some};
 ghost use Rattle.hir_syntax.specs.declared.ast.Expr.{Expr as AstExpr};
 ghost use Rattle.hir_store.specs.Range.{HasPats};
-ghost use Rattle.hir_env.specs.Answered as tree;
-ghost use Rattle.hir_env.specs.Answered.{Exprs};
-ghost use Rattle.hir_env.specs.Spot.{Spot};
+ghost use Rattle.hir_env.specs.ResolvedTree as tree;
+ghost use Rattle.hir_env.specs.ResolvedTree.{Exprs};
+ghost use Rattle.hir_env.specs.ResolveCtx.{ResolveCtx};
 ghost use Rattle.hir_env.specs.Targets as of;
 ghost use Rattle.hir_env.specs.Whole.{exprs_part};
-ghost use Rattle.hir_lower_form.specs.Lowering.{Lowers};
-ghost use Rattle.hir_lower_form.specs.Lower as spec;
-ghost use Rattle.hir_lower_form.specs.Methods.{LowersTarget};
-ghost use Rattle.hir_lower_form.specs.Nests.{Each};
-ghost use Rattle.hir_lower_form.specs.Pats.{no_elements};
-ghost use Rattle.hir_lower_pat.specs.Aims.{Aims, element_found, found_at};
+ghost use Rattle.hir_lower_builder.specs.Lowering.{Lowers};
+ghost use Rattle.hir_lower_builder.specs.Lower as spec;
+ghost use Rattle.hir_lower_builder.specs.Methods.{LowersTarget};
+ghost use Rattle.hir_lower_builder.specs.Nests.{Each};
+ghost use Rattle.hir_lower_builder.specs.Pats.{no_elements};
+ghost use Rattle.hir_lower_pat.specs.Assignees.{Assignees, element_found, found_at};
 ghost use Rattle.hir_lower_pat.specs.Methods.{HasElements};
 ghost use Rattle.hir_lower_pat.specs.TargetLists.{HasArrayParts, array_read, part_behind, elements_read};
 
 use crate::target_arrays::array_element;
 use crate::tuples::stored_elements;
 use hir_base::node::{AstPtr, InFile};
-use hir_lower_form::builder::BodyBuilder;
-use hir_lower_form::storing::Storing;
-use hir_lower_pat::aims::{Aim, TargetNode, alloc_target};
+use hir_lower_builder::builder::BodyBuilder;
+use hir_lower_builder::store_sink::StoreSink;
+use hir_lower_pat::assignees::{Assignee, TargetNode, alloc_target};
 use hir_lower_pat::parts::TargetParts;
-use hir_store::fault::StoreFault;
+use hir_store::error::StoreError;
 use hir_store::hir::Pat;
 use hir_store::ids::PatId;
 use hir_store::lists::push_pat;
@@ -32,16 +32,16 @@ use hir_syntax::{Seq, ast};
 use std::alloc::Global;
 
 /// One part more. Two dots are none, be it through calls, and of several the first count.
-fn element<I: Storing, T: TargetParts<I>, N: TargetNode>(
+fn element<I: StoreSink, T: TargetParts<I>, N: TargetNode>(
     parts: &T,
     state: &mut BodyBuilder<I>,
     done: (Seq<PatId>, Option<usize>),
     node: &N,
-) -> Result<(Seq<PatId>, Option<usize>), StoreFault>
+) -> Result<(Seq<PatId>, Option<usize>), StoreError>
     requires part { N.can (T.can_target parts.now) node.now }
     requires done { HasPats state.old.stored done.0 }
-    ensures { let spot = T.spot parts.now in
-        let part = element_found (found_at spot) None (N.read spot node.now) in
+    ensures { let rctx = T.rctx parts.now in
+        let part = element_found (found_at rctx) None (N.read rctx node.now) in
         Lowers HasElements (part_behind done part) state.old result state.new }
 {
     let (mut ids, dots) = done;
@@ -61,14 +61,14 @@ fn element<I: Storing, T: TargetParts<I>, N: TargetNode>(
 }
 
 /// One part after another.
-fn each_element<I: Storing, T: TargetParts<I>>(
+fn each_element<I: StoreSink, T: TargetParts<I>>(
     parts: &T,
     state: &mut BodyBuilder<I>,
     mut left: &[ast::Expr],
-) -> Result<(Seq<PatId>, Option<usize>), StoreFault>
+) -> Result<(Seq<PatId>, Option<usize>), StoreError>
     requires { Each (T.can_target parts.now) left.now }
-    ensures { let spot = T.spot parts.now in
-        Lowers HasElements (elements_read (found_at spot) no_elements (exprs_part spot left.entry.now)) state.old result state.new }
+    ensures { let rctx = T.rctx parts.now in
+        Lowers HasElements (elements_read (found_at rctx) no_elements (exprs_part rctx left.entry.now)) state.old result state.new }
 {
     let mut done = (Seq::new(parts.alloc()), None);
     while let [one, rest @ ..] = left {
@@ -82,28 +82,28 @@ fn each_element<I: Storing, T: TargetParts<I>>(
 pub trait TargetsPart {
     ghost can: { (AstExpr → Type 0) → Self → Type 0 };
 
-    ghost read: { Spot → Self → Exprs };
+    ghost read: { ResolveCtx → Self → Exprs };
 
     /// The parts, and how many stand in front of the first two dots.
-    fn elements<I: Storing, T: TargetParts<I>>(
+    fn elements<I: StoreSink, T: TargetParts<I>>(
         &self,
         parts: &T,
         state: &mut BodyBuilder<I>,
-    ) -> Result<(Seq<PatId>, Option<usize>), StoreFault>
+    ) -> Result<(Seq<PatId>, Option<usize>), StoreError>
         requires { can (T.can_target parts.now) self.now }
-        ensures { let spot = T.spot parts.now in
-            let read = of.elements (found_at spot) (read spot self.now) in
+        ensures { let rctx = T.rctx parts.now in
+            let read = of.elements (found_at rctx) (read rctx self.now) in
             Lowers HasElements (spec.lower_targets no_elements read) state.old result state.new };
 
     /// The parts in front of the first two dots, the node of these, and the parts behind them.
-    fn around_dots<I: Storing, T: TargetParts<I>>(
+    fn around_dots<I: StoreSink, T: TargetParts<I>>(
         &self,
         parts: &T,
         state: &mut BodyBuilder<I>,
-    ) -> Result<(Seq<PatId>, Option<InFile<AstPtr>>, Seq<PatId>), StoreFault>
+    ) -> Result<(Seq<PatId>, Option<InFile<AstPtr>>, Seq<PatId>), StoreError>
         requires { can (T.can_target parts.now) self.now }
-        ensures { let spot = T.spot parts.now in
-            Lowers HasArrayParts (array_read (found_at spot) ([], None, []) (read spot self.now)) state.old result state.new };
+        ensures { let rctx = T.rctx parts.now in
+            Lowers HasArrayParts (array_read (found_at rctx) ([], None, []) (read rctx self.now)) state.old result state.new };
 }
 
 impl TargetsPart for Seq<ast::Expr> {
@@ -111,19 +111,19 @@ impl TargetsPart for Seq<ast::Expr> {
 
     ghost read = { exprs_part };
 
-    fn elements<I: Storing, T: TargetParts<I>>(
+    fn elements<I: StoreSink, T: TargetParts<I>>(
         &self,
         parts: &T,
         state: &mut BodyBuilder<I>,
-    ) -> Result<(Seq<PatId>, Option<usize>), StoreFault> {
+    ) -> Result<(Seq<PatId>, Option<usize>), StoreError> {
         each_element(parts, state, self.as_slice())
     }
 
-    fn around_dots<I: Storing, T: TargetParts<I>>(
+    fn around_dots<I: StoreSink, T: TargetParts<I>>(
         &self,
         parts: &T,
         state: &mut BodyBuilder<I>,
-    ) -> Result<(Seq<PatId>, Option<InFile<AstPtr>>, Seq<PatId>), StoreFault> {
+    ) -> Result<(Seq<PatId>, Option<InFile<AstPtr>>, Seq<PatId>), StoreError> {
         let mut done = (Seq::new(parts.alloc()), None, Seq::new(parts.alloc()));
         let mut left = self.as_slice();
         while let [one, rest @ ..] = left {
@@ -135,18 +135,18 @@ impl TargetsPart for Seq<ast::Expr> {
 }
 
 /// A leading comma adds nothing.
-#[tactic(auto, unfolding(hir_lower_form::specs::Targets::tuple_target_form))]
+#[tactic(auto, unfolding(hir_lower_builder::specs::Targets::tuple_target_form))]
 #[inline(never)]
-fn tuple_form<I: Storing, T: TargetParts<I>, L: TargetsPart>(
+fn tuple_form<I: StoreSink, T: TargetParts<I>, L: TargetsPart>(
     parts: &T,
     state: &mut BodyBuilder<I>,
     at: InFile<AstPtr>,
     call: Option<InFile<AstPtr>>,
     fields: &L,
-) -> Result<PatId, StoreFault>
+) -> Result<PatId, StoreError>
     requires { L.can (T.can_target parts.now) fields.now }
-    ensures { let spot = T.spot parts.now in
-        let read = of.elements (found_at spot) (L.read spot fields.now) in
+    ensures { let rctx = T.rctx parts.now in
+        let read = of.elements (found_at rctx) (L.read rctx fields.now) in
         LowersTarget (tree.tuple_target (of.origin call at) read) state.old result state.new }
 {
     let read = fields.elements(parts, state)?;
@@ -155,13 +155,13 @@ fn tuple_form<I: Storing, T: TargetParts<I>, L: TargetsPart>(
 }
 
 /// `(..)`, the tuple without parts.
-#[tactic(auto, unfolding(hir_lower_form::specs::Targets::tuple_target_form, hir_lower_form::specs::Pats::elements_form))]
-pub(crate) fn dots_alone<I: Storing>(
+#[tactic(auto, unfolding(hir_lower_builder::specs::Targets::tuple_target_form, hir_lower_builder::specs::Pats::elements_form))]
+pub(crate) fn dots_alone<I: StoreSink>(
     alloc: Global,
     state: &mut BodyBuilder<I>,
     at: InFile<AstPtr>,
     call: Option<InFile<AstPtr>>,
-) -> Result<PatId, StoreFault>
+) -> Result<PatId, StoreError>
     ensures { LowersTarget (tree.tuple_target (of.origin call at) (tree.dots_targets tree.no_targets)) state.old result state.new }
 {
     let pat = Pat::Tuple {
@@ -172,17 +172,17 @@ pub(crate) fn dots_alone<I: Storing>(
 }
 
 /// A tuple that is assigned to is a pattern.
-pub(crate) fn tuple_aim<I: Storing, T: TargetParts<I>, L: TargetsPart>(
+pub(crate) fn tuple_assignee<I: StoreSink, T: TargetParts<I>, L: TargetsPart>(
     parts: &T,
     state: &mut BodyBuilder<I>,
     at: InFile<AstPtr>,
     call: Option<InFile<AstPtr>>,
     leading_comma: bool,
     fields: &L,
-) -> Result<Aim, StoreFault>
+) -> Result<Assignee, StoreError>
     requires { L.can (T.can_target parts.now) fields.now }
-    ensures { let spot = T.spot parts.now in
-        Aims spot call (tree.list_expr at (tree.tuple_of leading_comma) (L.read spot fields.now)) state.old result state.new }
+    ensures { let rctx = T.rctx parts.now in
+        Assignees rctx call (tree.list_expr at (tree.tuple_of leading_comma) (L.read rctx fields.now)) state.old result state.new }
 {
-    Ok(Aim::Pat(tuple_form(parts, state, at, call, fields)?))
+    Ok(Assignee::Pat(tuple_form(parts, state, at, call, fields)?))
 }

@@ -6,31 +6,33 @@ ghost use Rattle.hir_syntax.specs.declared.ast.RecordExprField.{out-RecordExprFi
 ghost use Rattle.hir_syntax.specs.declared.ast.RecordExprFieldList.{out-RecordExprFieldList};
 ghost use Rattle.hir_store.specs.Pointers.{Pointer};
 ghost use Rattle.hir_store.specs.Range.{HasNone, HasPat, HasPatFields, HasPath};
-ghost use Rattle.hir_env.specs.Answered as tree;
-ghost use Rattle.hir_env.specs.Answered.{TargetFields};
-ghost use Rattle.hir_env.specs.Spot.{Spot};
+ghost use Rattle.hir_env.specs.ResolvedTree as tree;
+ghost use Rattle.hir_env.specs.ResolvedTree.{TargetFields};
+ghost use Rattle.hir_env.specs.ResolveCtx.{ResolveCtx};
 ghost use Rattle.hir_env.specs.Targets as of;
 ghost use Rattle.hir_env.specs.Answering.{field_of};
-ghost use Rattle.hir_env.specs.Whole.{answered, answered_field, expr_part, field_level, fields_part, path_part, record_part};
+ghost use Rattle.hir_env.specs.Whole.{resolved_expr, resolved_field, expr_part, field_level, fields_part, path_part, record_part};
 ghost use Rattle.hir_env.specs.Whole.{spread_part};
-ghost use Rattle.hir_lower_form.specs.Lowering.{Lowers};
-ghost use Rattle.hir_lower_form.specs.Lower as spec;
-ghost use Rattle.hir_lower_form.specs.Methods.{LowersTarget};
-ghost use Rattle.hir_lower_form.specs.Nests.{IfPresent};
-ghost use Rattle.hir_lower_form.specs.Pats as forms;
-ghost use Rattle.hir_lower_form.specs.Targets as steps;
-ghost use Rattle.hir_lower_pat.specs.Aims.{Aims, HasAim, KidsOfFields, found_at, patterned};
+ghost use Rattle.hir_lower_builder.specs.Lowering.{Lowers};
+ghost use Rattle.hir_lower_builder.specs.Lower as spec;
+ghost use Rattle.hir_lower_builder.specs.Methods.{LowersTarget};
+ghost use Rattle.hir_lower_builder.specs.Nests.{IfPresent};
+ghost use Rattle.hir_lower_builder.specs.Pats as forms;
+ghost use Rattle.hir_lower_builder.specs.Targets as steps;
+ghost use Rattle.hir_lower_pat.specs.Assignees.{Assignees, HasAssignee, KidsOfFields, found_at, target_assignee};
 ghost use Rattle.hir_lower_pat.specs.Methods.{HasPatField, field_name};
 
 use hir_base::node::{AstPtr, InFile};
-use hir_lower_form::builder::BodyBuilder;
-use hir_lower_form::parts::site;
-use hir_lower_form::storing::Storing;
-use hir_lower_pat::aims::{Aim, TargetNode, alloc_target, missing_target, pointer_of, target};
+use hir_lower_builder::builder::BodyBuilder;
+use hir_lower_builder::parts::site;
+use hir_lower_builder::store_sink::StoreSink;
+use hir_lower_pat::assignees::{
+    Assignee, TargetNode, alloc_target, missing_target, pointer_of, target,
+};
 use hir_lower_pat::parts::{HerePaths, TargetParts};
 use hir_lower_pat::paths::PathPart;
 use hir_store::diagnostics::ExpressionStoreDiagnostics;
-use hir_store::fault::StoreFault;
+use hir_store::error::StoreError;
 use hir_store::hir::{Pat, RecordFieldPat};
 use hir_store::ids::PatId;
 use hir_store::lists::push_pat_field;
@@ -39,12 +41,12 @@ use hir_store::path::Path;
 use hir_syntax::{Boxed, Seq, ast};
 
 /// The part of a field, which leads to the field where that has a name.
-fn named_part<I: Storing>(
+fn named_part<I: StoreSink>(
     state: &mut BodyBuilder<I>,
     at: InFile<AstPtr>,
     name: &Option<ast::Name>,
     pat: PatId,
-) -> Result<Option<RecordFieldPat>, StoreFault>
+) -> Result<Option<RecordFieldPat>, StoreError>
     requires { HasPat state.old.stored pat }
     ensures { Lowers HasPatField (forms.named_part at (field_name name.now) pat) state.old result state.new }
 {
@@ -59,17 +61,17 @@ fn named_part<I: Storing>(
 }
 
 /// A field with an expression. Without a name it is no part of the record.
-#[tactic(auto, unfolding(hir_lower_form::specs::Targets::target_field_form))]
-fn present_field<I: Storing, T: TargetParts<I>, N: TargetNode>(
+#[tactic(auto, unfolding(hir_lower_builder::specs::Targets::target_field_form))]
+fn present_field<I: StoreSink, T: TargetParts<I>, N: TargetNode>(
     parts: &T,
     state: &mut BodyBuilder<I>,
     at: InFile<AstPtr>,
     name: &Option<ast::Name>,
     expr: &N,
-) -> Result<Option<RecordFieldPat>, StoreFault>
+) -> Result<Option<RecordFieldPat>, StoreError>
     requires { N.can (T.can_target parts.now) expr.now }
-    ensures { let spot = T.spot parts.now in
-        let part = of.target_of (found_at spot) (tree.some_expr (N.read spot expr.now)) in
+    ensures { let rctx = T.rctx parts.now in
+        let part = of.target_of (found_at rctx) (tree.some_expr (N.read rctx expr.now)) in
         Lowers HasPatField (spec.lower_target_field (tree.target_field at (field_name name.now) part)) state.old result state.new }
 {
     let pat = target(parts, state, expr)?;
@@ -77,16 +79,16 @@ fn present_field<I: Storing, T: TargetParts<I>, N: TargetNode>(
 }
 
 /// Without an expression nothing comes of it.
-fn kept_field<I: Storing, T: TargetParts<I>>(
+fn kept_field<I: StoreSink, T: TargetParts<I>>(
     parts: &T,
     state: &mut BodyBuilder<I>,
     at: InFile<AstPtr>,
     name: &Option<ast::Name>,
     expr: &Option<Boxed<ast::Expr>>,
-) -> Result<Option<RecordFieldPat>, StoreFault>
+) -> Result<Option<RecordFieldPat>, StoreError>
     requires { IfPresent (T.can_target parts.now) expr.now }
-    ensures { let spot = T.spot parts.now in
-        let field = of.target_field_of (found_at spot) (field_of at name.now (expr_part spot expr.now)) in
+    ensures { let rctx = T.rctx parts.now in
+        let field = of.target_field_of (found_at rctx) (field_of at name.now (expr_part rctx expr.now)) in
         Lowers HasPatField (spec.lower_target_field field) state.old result state.new }
 {
     match expr {
@@ -97,14 +99,14 @@ fn kept_field<I: Storing, T: TargetParts<I>>(
 
 /// The field, none where a condition disables it.
 #[inline(never)]
-fn field_form<I: Storing, T: TargetParts<I>>(
+fn field_form<I: StoreSink, T: TargetParts<I>>(
     parts: &T,
     state: &mut BodyBuilder<I>,
     node: &ast::RecordExprField,
-) -> Result<Option<RecordFieldPat>, StoreFault>
+) -> Result<Option<RecordFieldPat>, StoreError>
     requires { IfPresent (T.can_target parts.now) (out-RecordExprField node.now).expr }
-    ensures { let spot = T.spot parts.now in
-        let field = of.target_field_of (found_at spot) (field_level spot node.now) in
+    ensures { let rctx = T.rctx parts.now in
+        let field = of.target_field_of (found_at rctx) (field_level rctx node.now) in
         Lowers HasPatField (spec.lower_target_field field) state.old result state.new }
 {
     let at = parts.pointer(node.id, node.range);
@@ -117,28 +119,28 @@ fn field_form<I: Storing, T: TargetParts<I>>(
     }
 }
 
-fn field<I: Storing, T: TargetParts<I>>(
+fn field<I: StoreSink, T: TargetParts<I>>(
     parts: &T,
     state: &mut BodyBuilder<I>,
     node: &ast::RecordExprField,
-) -> Result<Option<RecordFieldPat>, StoreFault>
+) -> Result<Option<RecordFieldPat>, StoreError>
     requires { IfPresent (T.can_target parts.now) (out-RecordExprField node.now).expr }
-    ensures { let spot = T.spot parts.now in
-        let field = of.target_field_of (found_at spot) (answered_field spot node.now) in
+    ensures { let rctx = T.rctx parts.now in
+        let field = of.target_field_of (found_at rctx) (resolved_field rctx node.now) in
         Lowers HasPatField (spec.lower_target_field field) state.old result state.new }
 {
     field_form(parts, state, node)
 }
 
 /// The fields that no condition disables and that have a name and an expression.
-fn fields<I: Storing, T: TargetParts<I>>(
+fn fields<I: StoreSink, T: TargetParts<I>>(
     parts: &T,
     state: &mut BodyBuilder<I>,
     mut left: &[ast::RecordExprField],
-) -> Result<Seq<RecordFieldPat>, StoreFault>
+) -> Result<Seq<RecordFieldPat>, StoreError>
     requires { KidsOfFields (T.can_target parts.now) left.now }
-    ensures { let spot = T.spot parts.now in
-        let fields = of.target_fields (found_at spot) (fields_part spot left.entry.now) in
+    ensures { let rctx = T.rctx parts.now in
+        let fields = of.target_fields (found_at rctx) (fields_part rctx left.entry.now) in
         Lowers HasPatFields (spec.lower_target_fields [] fields) state.old result state.new }
 {
     let mut done = Seq::new(parts.alloc());
@@ -152,13 +154,13 @@ fn fields<I: Storing, T: TargetParts<I>>(
 }
 
 /// An expression behind the two dots of a record is a fault.
-fn report_spread<I: Storing, H: HerePaths<I>>(
+fn report_spread<I: StoreSink, H: HerePaths<I>>(
     parts: &H,
     state: &mut BodyBuilder<I>,
     spread: &Option<Boxed<ast::Expr>>,
     dots: bool,
-) -> Result<(), StoreFault>
-    ensures { let read = spread_part (H.spot parts.now) spread.now dots in
+) -> Result<(), StoreError>
+    ensures { let read = spread_part (H.rctx parts.now) spread.now dots in
         Lowers HasNone (steps.report_spread (of.spread_pointer read)) state.old result state.new }
 {
     match spread {
@@ -174,26 +176,26 @@ fn report_spread<I: Storing, H: HerePaths<I>>(
 pub trait TargetRecord {
     ghost can: { (AstExpr → Type 0) → Self → Type 0 };
 
-    ghost fields: { Spot → Self → TargetFields };
+    ghost fields: { ResolveCtx → Self → TargetFields };
 
-    ghost spread: { Spot → Self → Option Pointer };
+    ghost spread: { ResolveCtx → Self → Option Pointer };
 
     ghost has_dots: { Self → Bool };
 
     /// A record of this path. The fault of a spread comes before those of the fields.
-    fn record<I: Storing, T: TargetParts<I>>(
+    fn record<I: StoreSink, T: TargetParts<I>>(
         &self,
         parts: &T,
         state: &mut BodyBuilder<I>,
         at: InFile<AstPtr>,
         call: Option<InFile<AstPtr>>,
         path: Path,
-    ) -> Result<PatId, StoreFault>
+    ) -> Result<PatId, StoreError>
         requires path { HasPath state.old.stored path }
         requires list { can (T.can_target parts.now) self.now }
-        ensures { let spot = T.spot parts.now in
-            let read = spec.lower_target_fields [] (fields spot self.now) in
-            Lowers HasPat (steps.record_target_of (of.origin call at) (has_dots self.now) (spread spot self.now) read (Some path))
+        ensures { let rctx = T.rctx parts.now in
+            let read = spec.lower_target_fields [] (fields rctx self.now) in
+            Lowers HasPat (steps.record_target_of (of.origin call at) (has_dots self.now) (spread rctx self.now) read (Some path))
             state.old result state.new };
 }
 
@@ -206,14 +208,14 @@ impl TargetRecord for ast::RecordExprFieldList {
 
     ghost has_dots = { λ l. (out-RecordExprFieldList l).dotdot };
 
-    fn record<I: Storing, T: TargetParts<I>>(
+    fn record<I: StoreSink, T: TargetParts<I>>(
         &self,
         parts: &T,
         state: &mut BodyBuilder<I>,
         at: InFile<AstPtr>,
         call: Option<InFile<AstPtr>>,
         path: Path,
-    ) -> Result<PatId, StoreFault> {
+    ) -> Result<PatId, StoreError> {
         report_spread(parts, state, &self.spread, self.dotdot)?;
         let args = fields(parts, state, self.fields.as_slice())?;
         let pat = Pat::Record {
@@ -226,21 +228,21 @@ impl TargetRecord for ast::RecordExprFieldList {
 }
 
 /// Where the path is absent or refused the record is missing, and nothing else of it is read.
-#[tactic(auto, unfolding(hir_lower_form::specs::Targets::record_target_form))]
+#[tactic(auto, unfolding(hir_lower_builder::specs::Targets::record_target_form))]
 #[inline(never)]
-fn record_form<I: Storing, T: TargetParts<I>, W: PathPart, L: TargetRecord>(
+fn record_form<I: StoreSink, T: TargetParts<I>, W: PathPart, L: TargetRecord>(
     parts: &T,
     state: &mut BodyBuilder<I>,
     at: InFile<AstPtr>,
     call: Option<InFile<AstPtr>>,
     path: &W,
     list: &L,
-) -> Result<PatId, StoreFault>
+) -> Result<PatId, StoreError>
     requires path { W.can (T.can_path parts.now) path.now }
     requires list { L.can (T.can_target parts.now) list.now }
-    ensures { let spot = T.spot parts.now in
-        let fields = L.fields spot list.now in
-        let read = tree.record_target (of.origin call at) (W.read spot path.now) fields (L.has_dots list.now) (L.spread spot list.now) in
+    ensures { let rctx = T.rctx parts.now in
+        let fields = L.fields rctx list.now in
+        let read = tree.record_target (of.origin call at) (W.read rctx path.now) fields (L.has_dots list.now) (L.spread rctx list.now) in
         LowersTarget read state.old result state.new }
 {
     match parts.path(state, path)? {
@@ -250,26 +252,26 @@ fn record_form<I: Storing, T: TargetParts<I>, W: PathPart, L: TargetRecord>(
 }
 
 /// A record with a list of fields.
-fn listed_aim<I: Storing, T: TargetParts<I>, W: PathPart, L: TargetRecord>(
+fn listed_assignee<I: StoreSink, T: TargetParts<I>, W: PathPart, L: TargetRecord>(
     parts: &T,
     state: &mut BodyBuilder<I>,
     at: InFile<AstPtr>,
     call: Option<InFile<AstPtr>>,
     path: &W,
     list: &L,
-) -> Result<Aim, StoreFault>
+) -> Result<Assignee, StoreError>
     requires path { W.can (T.can_path parts.now) path.now }
     requires list { L.can (T.can_target parts.now) list.now }
-    ensures { let spot = T.spot parts.now in
-        let fields = L.fields spot list.now in
-        let read = tree.record_target (of.origin call at) (W.read spot path.now) fields (L.has_dots list.now) (L.spread spot list.now) in
-        Lowers HasAim (patterned read) state.old result state.new }
+    ensures { let rctx = T.rctx parts.now in
+        let fields = L.fields rctx list.now in
+        let read = tree.record_target (of.origin call at) (W.read rctx path.now) fields (L.has_dots list.now) (L.spread rctx list.now) in
+        Lowers HasAssignee (target_assignee read) state.old result state.new }
 {
-    Ok(Aim::Pat(record_form(parts, state, at, call, path, list)?))
+    Ok(Assignee::Pat(record_form(parts, state, at, call, path, list)?))
 }
 
 /// A record without a list of fields is a place.
-pub(crate) fn record_aim<I: Storing, T: TargetParts<I>>(
+pub(crate) fn record_assignee<I: StoreSink, T: TargetParts<I>>(
     parts: &T,
     state: &mut BodyBuilder<I>,
     at: InFile<AstPtr>,
@@ -277,16 +279,16 @@ pub(crate) fn record_aim<I: Storing, T: TargetParts<I>>(
     node: &ast::Expr,
     path: &Option<Boxed<ast::Path>>,
     list: &Option<ast::RecordExprFieldList>,
-) -> Result<Aim, StoreFault>
+) -> Result<Assignee, StoreError>
     requires path { IfPresent (T.can_path parts.now) path.now }
     requires list { IfPresent (λ l. KidsOfFields (T.can_target parts.now) (out-RecordExprFieldList l).fields) list.now }
     requires place { T.can_place parts.now node.now }
-    requires is { let spot = T.spot parts.now in let read = record_part spot list.now in
-        answered spot node.now ≡ tree.record_expr at (path_part spot path.now) read.head read.fields read.spread }
-    ensures { let spot = T.spot parts.now in Aims spot call (answered spot node.now) state.old result state.new }
+    requires is { let rctx = T.rctx parts.now in let read = record_part rctx list.now in
+        resolved_expr rctx node.now ≡ tree.record_expr at (path_part rctx path.now) read.head read.fields read.spread }
+    ensures { let rctx = T.rctx parts.now in Assignees rctx call (resolved_expr rctx node.now) state.old result state.new }
 {
     match list {
         None => parts.place(state, node),
-        Some(list) => listed_aim(parts, state, at, call, path, list),
+        Some(list) => listed_assignee(parts, state, at, call, path, list),
     }
 }

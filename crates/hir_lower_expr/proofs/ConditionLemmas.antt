@@ -1,4 +1,4 @@
--- Whether the condition of a `while` holds a `let`: by the kind of what is written, and through the calls of macros in it.
+-- Whether the condition of a `while` holds a `let`: by the kind of what is written, and through the macro calls in it.
 use Rattle.std.proofs.Common.{◌≡◌, ◌∙◌, ap, refl, sym, ℕ, zero, suc, ◌+◌, ◌≤◌, arith, Bool, true, false, ◌&&◌, ◌||◌, Option, Some, None}
 use Rattle.std.proofs.Common.{Err}
 use Rattle.hir_base.specs.declared.op.BinaryOp.{BinaryOp}
@@ -15,22 +15,22 @@ use Rattle.hir_syntax.specs.declared.pats.Pat.{Pat as AstPat}
 use Rattle.hir_store.specs.Pointers.{Pointer}
 use Rattle.hir_store.specs.declared.ids.CfgId.{CfgId}
 use Rattle.hir_env.specs.Answers.{Expanding, unresolved, no_expansion, expanded}
-use Rattle.hir_env.specs.Answered as tree
-use Rattle.hir_env.specs.Answered.{Called, Expr, OptionExpr}
+use Rattle.hir_env.specs.ResolvedTree as tree
+use Rattle.hir_env.specs.ResolvedTree.{Called, Expr, OptionExpr}
 use Rattle.hir_env.specs.Answering.{asked, coroutine_kind, for_items, question_items}
 use Rattle.hir_env.specs.Calls.{around, around_if, asked_call, call_pointer, called, entered_expr, expr_in, gone_in, inside_file}
 use Rattle.hir_env.specs.Conditions.{holds_let, is_with_let}
 use Rattle.hir_env.specs.Count.{count_expr, count_option_expr}
 use Rattle.hir_env.specs.Layers.{ExprKindLayer}
-use Rattle.hir_env.specs.Spot.{Spot, site_of}
-use Rattle.hir_env.specs.Whole.{answered, entering, expr_part, kept_expr, pointer_at, written}
+use Rattle.hir_env.specs.ResolveCtx.{ResolveCtx, site_of}
+use Rattle.hir_env.specs.Whole.{resolved_expr, entering, expr_part, kept_expr, pointer_at, written}
 use Rattle.hir_env.specs.declared.expand.FragmentKind.TheVariants as kind
 use Rattle.hir_env.proofs.Levels.{block_is_level, expr_is_level}
-use Rattle.hir_lower_form.specs.Calls.{found_in}
-use Rattle.hir_lower_form.specs.Methods.{at_place}
+use Rattle.hir_lower_builder.specs.Calls.{found_in}
+use Rattle.hir_lower_builder.specs.Methods.{at_place}
 use Rattle.hir_lower_pat.specs.Calls.{expr_there, written_expr}
 use Rattle.hir_lower_pat.specs.TargetLists.{behind_left, expr_behind}
-use Rattle.hir_lower_pat.proofs.AimLemmas.{kept_below, level}
+use Rattle.hir_lower_pat.proofs.AssigneeLemmas.{kept_below, level}
 use Rattle.hir_lower_pat.proofs.CallLemmas.{fresh}
 use Rattle.hir_lower_pat.proofs.OfKinds.{of_closure, of_for, of_own, of_question}
 use Rattle.hir_lower_pat.proofs.TargetCalls.{expr_call_is, lacking_expr_is}
@@ -46,19 +46,19 @@ around_holds s c (tree.some_expr e) = by e
     by (tree.disabled_expr why e) = refl
     by _ = refl
 
-call_by : (at : Spot) (s c : Pointer) (n : ℕ) (x : Expanding)
+call_by : (at : ResolveCtx) (s c : Pointer) (n : ℕ) (x : Expanding)
     → is_with_let (around s (called c x) (expr_in (fresh at.answers n) at.place x)) ≡ let_there at (expr_there (found_in n at.place x))
 call_by at s c n (unresolved y) = refl
 call_by at s c n no_expansion = refl
 call_by at s c n (expanded f None es) = refl
 call_by at s c n (expanded f (Some (fragment.Expr e)) es) =
     around_holds s (tree.entered (record { call = c; file = f; eager = es }))
-    (tree.some_expr (answered (at_place at (inside_file f n at.place)) e))
+    (tree.some_expr (resolved_expr (at_place at (inside_file f n at.place)) e))
 call_by at s c n (expanded f (Some (fragment.Stmts e)) es) = refl
 call_by at s c n (expanded f (Some (fragment.Pat e)) es) = refl
 call_by at s c n (expanded f (Some (fragment.Type_ e)) es) = refl
 
-call_on : (at : Spot) (s : Pointer) (c : AstMacroCall) → is_with_let (written_expr at s c) ≡ let_there at (expr_behind at c)
+call_on : (at : ResolveCtx) (s : Pointer) (c : AstMacroCall) → is_with_let (written_expr at s c) ≡ let_there at (expr_behind at c)
 call_on at s c = by at.place.left
   where
     by : (l : ℕ) → is_with_let (entered_expr at.answers (entering at.answers l) c at.place s)
@@ -75,10 +75,10 @@ IsOther (ExprKind-F.BinExpr o a b) = ⊥
 IsOther (ExprKind-F.MacroExpr c) = ⊥
 IsOther _ = Unit {0}
 
-other_at : (at : Spot) (k : ExprKindLayer written) (s : Pointer) → IsOther k → is_with_let (level at k s) ≡ false
+other_at : (at : ResolveCtx) (k : ExprKindLayer written) (s : Pointer) → IsOther k → is_with_let (level at k s) ≡ false
 other_at at (ExprKind-F.BlockExpr b) s h =
     ap is_with_let (block_is_level at b)
-    ∙ of_own is_with_let false (λ x. refl) (λ t item y number ss e. refl) (λ t c. refl) (λ t way moves number ss e. refl)
+    ∙ of_own is_with_let false (λ x. refl) (λ t item y number ss e. refl) (λ t c. refl) (λ t mapping moves number ss e. refl)
     at (out-BlockExpr b).mod_ b
 other_at at (ExprKind-F.TryExpr e) s h = of_question is_with_let false s _ (λ items. refl) refl (question_items at.answers.lang_items)
 other_at at (ExprKind-F.RangeExpr o a b) s h = refl
@@ -105,7 +105,8 @@ other_at at (ExprKind-F.TupleExpr comma es) s h = refl
 other_at at (ExprKind-F.ArrayExpr es) s h = refl
 other_at at (ExprKind-F.RepeatExpr e n) s h = refl
 other_at at (ExprKind-F.ClosureExpr ps r e is_async is_gen moves is_static) s h =
-    of_closure is_with_let false (λ t m st xs y b. refl) (λ t way m xs y b. refl) (coroutine_kind is_async is_gen) s moves is_static _ _ _
+    of_closure is_with_let false (λ t m st xs y b. refl) (λ t mapping m xs y b. refl) (coroutine_kind is_async is_gen) s moves
+    is_static _ _ _
 other_at at (ExprKind-F.ReturnExpr e) s h = refl
 other_at at (ExprKind-F.BecomeExpr e) s h = refl
 other_at at (ExprKind-F.YieldExpr e) s h = refl
@@ -124,7 +125,7 @@ other_at at ExprKind-F.FormatArgsExpr s h = refl
 
 -- operators
 
-and_at : (at : Spot) (o : Option BinaryOp) (a b : Option AstExpr) (s : Pointer)
+and_at : (at : ResolveCtx) (o : Option BinaryOp) (a b : Option AstExpr) (s : Pointer)
     → is_with_let (level at (ExprKind-F.BinExpr o a b) s) ≡ (is_and o && (holds_let (expr_part at a) || holds_let (expr_part at b)))
 and_at at None a b s = refl
 and_at at (Some (op.LogicOp logic.And)) a b s = refl
@@ -134,7 +135,7 @@ and_at at (Some (op.CmpOp o)) a b s = refl
 and_at at (Some (op.Assignment o)) a b s = refl
 and_at at (Some op.Assign) a b s = refl
 
-operands_at : (at : Spot) (o : Option BinaryOp) (a b : Option AstExpr) (s : Pointer)
+operands_at : (at : ResolveCtx) (o : Option BinaryOp) (a b : Option AstExpr) (s : Pointer)
     → count_expr (level at (ExprKind-F.BinExpr o a b) s) ≡ suc (count_option_expr (expr_part at a) + count_option_expr (expr_part at b))
 operands_at at None a b s = refl
 operands_at at (Some (op.LogicOp o)) a b s = refl
@@ -155,25 +156,25 @@ by_none o a b r h e = e ∙ (λ i. h i && (a || b))
 
 -- one that is disabled, and an operand
 
-pub disabled_holds : (at : Spot) (e : AstExpr) (by : CfgId) → at.answers.cfg (site_of (pointer_at at e.id e.range)) ≡ Err by
-    → is_with_let (answered at e) ≡ false
+pub disabled_holds : (at : ResolveCtx) (e : AstExpr) (by : CfgId) → at.answers.cfg (site_of (pointer_at at e.id e.range)) ≡ Err by
+    → is_with_let (resolved_expr at e) ≡ false
 disabled_holds at e by h =
     let s = pointer_at at e.id e.range in ap is_with_let (expr_is_level at e ∙ ap (λ r. asked s r (kept_expr at e)) h)
 
 -- one that is there
-module _ (at : Spot) (part : Option AstExpr) (x y : AstExpr) (there : part ≡ Some x) (got : y ≡ x) where
-  pub part_holds : is_with_let (answered at y) ≡ holds_let (expr_part at part)
-  part_holds = ap (λ e. is_with_let (answered at e)) got ∙ ap (λ o. holds_let (expr_part at o)) (sym there)
+module _ (at : ResolveCtx) (part : Option AstExpr) (x y : AstExpr) (there : part ≡ Some x) (got : y ≡ x) where
+  pub part_holds : is_with_let (resolved_expr at y) ≡ holds_let (expr_part at part)
+  part_holds = ap (λ e. is_with_let (resolved_expr at e)) got ∙ ap (λ o. holds_let (expr_part at o)) (sym there)
 
-  pub part_size : count_expr (answered at y) ≡ count_option_expr (expr_part at part)
-  part_size = ap (λ e. count_expr (answered at e)) got ∙ ap (λ o. count_option_expr (expr_part at o)) (sym there)
+  pub part_size : count_expr (resolved_expr at y) ≡ count_option_expr (expr_part at part)
+  part_size = ap (λ e. count_expr (resolved_expr at e)) got ∙ ap (λ o. count_option_expr (expr_part at o)) (sym there)
 
-pub absent_holds : (at : Spot) (part : Option AstExpr) → part ≡ None → holds_let (expr_part at part) ≡ false
+pub absent_holds : (at : ResolveCtx) (part : Option AstExpr) → part ≡ None → holds_let (expr_part at part) ≡ false
 absent_holds at part h = ap (λ o. holds_let (expr_part at o)) h
 
 -- by its kind, whatever disables it
 
-module _ (at : Spot) (e : AstExpr) where
+module _ (at : ResolveCtx) (e : AstExpr) where
   abbrev node : Pointer
   node = pointer_at at e.id e.range
 
@@ -218,7 +219,7 @@ module _ (at : Spot) (e : AstExpr) where
   -- how much they count
 
   pub paren_size : (v : Option AstExpr) → out-ExprKind e.kind ≡ ExprKind-F.ParenExpr v
-      → suc (count_option_expr (expr_part at v)) ≤ count_expr (answered at e)
+      → suc (count_option_expr (expr_part at v)) ≤ count_expr (resolved_expr at e)
   paren_size v h =
       let same : count_expr (kept_expr at e) ≡ suc (count_option_expr (expr_part at v))
       = ap count_expr (as_level (ExprKind-F.ParenExpr v) h) in
@@ -226,7 +227,7 @@ module _ (at : Spot) (e : AstExpr) where
       omega (arith, same, kept)
 
   pub and_size : (o : Option BinaryOp) (a b : Option AstExpr) → out-ExprKind e.kind ≡ ExprKind-F.BinExpr o a b
-      → suc (count_option_expr (expr_part at a) + count_option_expr (expr_part at b)) ≤ count_expr (answered at e)
+      → suc (count_option_expr (expr_part at a) + count_option_expr (expr_part at b)) ≤ count_expr (resolved_expr at e)
   and_size o a b h =
       let same : count_expr (kept_expr at e) ≡ suc (count_option_expr (expr_part at a) + count_option_expr (expr_part at b))
       = ap count_expr (as_level (ExprKind-F.BinExpr o a b) h) ∙ operands_at at o a b node in

@@ -9,7 +9,7 @@ use Rattle.std.specs.Cmp.{first_so, second_so, unsigned_Decides}
 use Rattle.std.specs.Cmp.Lexicographic.{texts_ties}
 use Rattle.std.specs.Ordering.{eq_by_cmp}
 use Rattle.hir_store.specs.declared.diagnostics.ExpressionStoreDiagnostics.TheVariants.{InactiveCode}
-use Rattle.hir_store.specs.declared.fault.StoreFault.{StoreFault}
+use Rattle.hir_store.specs.declared.error.StoreError.{StoreError}
 use Rattle.hir_store.specs.NameOrder.{name_cmp}
 use Rattle.hir_store.specs.Names.{same_name}
 use Rattle.hir_store.specs.declared.hir.Statement.{Statement}
@@ -20,18 +20,19 @@ use Rattle.hir_store.specs.declared.ids.PatId.{PatId}
 use Rattle.hir_store.specs.declared.ids.TypeRefId.{TypeRefId}
 use Rattle.hir_store.specs.declared.name.Name.{Name}
 use Rattle.hir_store.specs.declared.name.Name.TheVariants as name
-use Rattle.hir_env.specs.Answered as tree
-use Rattle.hir_env.specs.Answered.{OptionExpr, Stmt, Stmts}
+use Rattle.hir_env.specs.ResolvedTree as tree
+use Rattle.hir_env.specs.ResolvedTree.{OptionExpr, Stmt, Stmts}
 use Rattle.hir_env.specs.Calls.{times}
 use Rattle.hir_env.specs.Layers.{Defined}
 use Rattle.hir_lower_scope.specs.Labels.{rest}
-use Rattle.hir_lower_form.specs.Builder.{Builder}
-use Rattle.hir_lower_form.specs.Calls.{behind, define_form, defined, inside_macro, note}
-use Rattle.hir_lower_form.specs.Forms.{let_stmt_form}
-use Rattle.hir_lower_form.specs.Lower.{StoredContents, kept_part, lower_stmt, lower_stmts, lower_top, present, present_block, present_type}
-use Rattle.hir_lower_form.specs.Lower.{push_some}
-use Rattle.hir_lower_form.specs.Lowering.{Checked, Lowering, ◌>>=◌, close, count_def, count_out, go_on, open_macro, pure, report}
-use Rattle.hir_lower_expr.specs.Runs.{Counts, closed, definitions, expr_stmt, inside, lower_run}
+use Rattle.hir_lower_builder.specs.Builder.{Builder}
+use Rattle.hir_lower_builder.specs.Calls.{behind, define_form, defined, inside_macro, track}
+use Rattle.hir_lower_builder.specs.Forms.{let_stmt_form}
+use Rattle.hir_lower_builder.specs.Lower.{StoredContents, kept_part, lower_stmt, lower_stmts, lower_top, present, present_block}
+use Rattle.hir_lower_builder.specs.Lower.{present_type}
+use Rattle.hir_lower_builder.specs.Lower.{push_some}
+use Rattle.hir_lower_builder.specs.Lowering.{Checked, Lowering, ◌>>=◌, close, count_def, count_out, go_on, open_macro, pure, report}
+use Rattle.hir_lower_expr.specs.Runs.{Counts, close_scopes, definitions, expr_stmt, inside, lower_run}
 
 -- counts
 
@@ -133,13 +134,13 @@ define_macro k d done now old mid new h is opens =
     ∙ (ap (λ z. go_on z.0 z.1 (λ _ b. pure (done ++ statement.MacroDef d ∷ []) (inside (tree.macro_stmt k (Some d)) b))) h
     ∙ (ap (λ z. (Ok (done ++ statement.MacroDef d ∷ []), z.1)) opens ∙ ap (λ xs. (Ok xs, new)) (sym is)))
 
-pub define_refused : (k : ℕ) (m : Option MacroDefId) (done : List Statement) (old new : Builder) (e : StoreFault)
+pub define_refused : (k : ℕ) (m : Option MacroDefId) (done : List Statement) (old new : Builder) (e : StoreError)
     → count_def k old ≡ (Err e, new) → define_on k m done old ≡ (Err e, new)
 define_refused k m done old new e h =
     define_is k m done old ∙ ap (λ z. go_on z.0 z.1 (λ _ b. pure (done ++ defined m ∷ []) (inside (tree.macro_stmt k m) b))) h
 
 -- to open it is never refused
-pub opens_always : (d : MacroDefId) (old new : Builder) (e : StoreFault) → open_macro d old ≡ (Err e, new) → ⊥
+pub opens_always : (d : MacroDefId) (old new : Builder) (e : StoreError) → open_macro d old ≡ (Err e, new) → ⊥
 unfolding open_macro
 opens_always d old new e h = true≢false (ap (λ z. is_ok z.0) h)
 
@@ -148,7 +149,7 @@ opens_always d old new e h = true≢false (ap (λ z. is_ok z.0) h)
 abbrev close_one : Builder → Builder
 close_one b = record b { scopes = rest b.scopes }
 
-close_last : (n : ℕ) (b : Builder) → closed (suc n) b ≡ close_one (closed n b)
+close_last : (n : ℕ) (b : Builder) → close_scopes (suc n) b ≡ close_one (close_scopes n b)
 close_last zero b = refl
 close_last (suc n) b = close_last n (close_one b)
 
@@ -167,7 +168,7 @@ opens_more (tree.macro_stmt k None) n = omega arith
 opens_more _ n = omega arith
 
 abbrev closing : ℕ → StoredContents → Lowering StoredContents
-closing n r b = (Ok r, closed n b)
+closing n r b = (Ok r, close_scopes n b)
 
 -- lowering closes each behind what stands inside of it, which is the same as to close all at the end
 abbrev with_done : List Statement → Option ExprId → Lowering StoredContents
@@ -272,7 +273,7 @@ stmt_in (tree.disabled_stmt at by s) b =
     let r = report (InactiveCode at by) b in then_gives r.0 r.1 (λ _. pure None) (AsOpened (tree.disabled_stmt at by s)) (λ a d. refl)
 stmt_in tree.item_stmt b = refl
 stmt_in (tree.call_stmt c) b =
-    then_gives (note c b).0 (note c b).1 (λ _. pure None) (AsOpened (tree.call_stmt c)) (λ a d. refl)
+    then_gives (track c b).0 (track c b).1 (λ _. pure None) (AsOpened (tree.call_stmt c)) (λ a d. refl)
 stmt_in (tree.macro_stmt k m) b =
     then_gives (count_def k b).0 (count_def k b).1 (λ _. pure (Some (defined m))) (AsOpened (tree.macro_stmt k m)) (λ a d. defined_in k m)
 stmt_in (tree.let_stmt p t e l) b =
@@ -319,16 +320,16 @@ tail_in ss (Err e) c tail h = tt
 -- what is in a block
 
 pub closes : (ss : Stmts) (e : OptionExpr) (b c : Builder) (xs : List Statement) (t : Option ExprId)
-    → flat [] ss (kept_part e) b ≡ (Ok (xs, t), c) → lower_stmts [] ss (kept_part e) b ≡ (Ok (xs, t), closed (definitions xs) c)
+    → flat [] ss (kept_part e) b ≡ (Ok (xs, t), c) → lower_stmts [] ss (kept_part e) b ≡ (Ok (xs, t), close_scopes (definitions xs) c)
 closes ss e b c xs t h =
     let run = lower_run [] ss b in
     let all : Gives (flat [] ss (kept_part e) b).0 (λ r. definitions r.0 ≡ opened ss) = tail_in ss run.0 run.1 (kept_part e)
     (run_in [] ss b) in
     let same : definitions xs ≡ opened ss = subst (λ z. Gives z.0 (λ r. definitions r.0 ≡ opened ss)) h all in
     flat_on [] ss (kept_part e) b ∙ (ap (λ z. go_on z.0 z.1 (closing (opened ss))) h
-    ∙ ap (λ n. (Ok (xs, t), closed n c)) (sym same))
+    ∙ ap (λ n. (Ok (xs, t), close_scopes n c)) (sym same))
 
-pub closes_nothing : (ss : Stmts) (e : OptionExpr) (b c : Builder) (x : StoreFault)
+pub closes_nothing : (ss : Stmts) (e : OptionExpr) (b c : Builder) (x : StoreError)
     → flat [] ss (kept_part e) b ≡ (Err x, c) → lower_stmts [] ss (kept_part e) b ≡ (Err x, c)
 closes_nothing ss e b c x h = flat_on [] ss (kept_part e) b ∙ ap (λ z. go_on z.0 z.1 (closing (opened ss))) h
 
@@ -340,11 +341,11 @@ take_all (x ∷ xs) = ap (λ ys. x ∷ ys) (take_all xs)
 
 pub closes_first : (xs : List Statement) (y : Statement) (d : MacroDefId) (old new : Builder)
     → slice_index_or xs 0 y ≡ statement.MacroDef d → 1 ≤ length xs → close old ≡ (Ok tt, new)
-    → closed (definitions xs) old ≡ closed (definitions (take (length xs - 1) (drop 1 xs))) new
+    → close_scopes (definitions xs) old ≡ close_scopes (definitions (take (length xs - 1) (drop 1 xs))) new
 unfolding close
 closes_first [] y d old new is le h = absurd (omega (arith, le))
 closes_first (x ∷ xs) y d old new is le h =
     let rest : length (x ∷ xs) - 1 ≡ length xs = omega arith in
     let others : take (length (x ∷ xs) - 1) xs ≡ xs = ap (λ n. take n xs) rest ∙ take_all xs in
-    ap (λ z. closed (definitions (z ∷ xs)) old) is
-    ∙ (ap (λ z. closed (definitions xs) z.1) h ∙ ap (λ ys. closed (definitions ys) new) (sym others))
+    ap (λ z. close_scopes (definitions (z ∷ xs)) old) is
+    ∙ (ap (λ z. close_scopes (definitions xs) z.1) h ∙ ap (λ ys. close_scopes (definitions ys) new) (sym others))

@@ -10,36 +10,37 @@ use Rattle.hir_syntax.specs.declared.ast.StmtKind.TheVariants as kind
 use Rattle.hir_store.specs.Past.{join, past_present, past_statement, past_statements}
 use Rattle.hir_store.specs.Range.{Grows, HasExprOption, HasStatements}
 use Rattle.hir_store.specs.Stored.{Stored}
-use Rattle.hir_store.specs.declared.fault.StoreFault.{StoreFault}
-use Rattle.hir_store.specs.declared.fault.StoreFault.TheVariants.{Memory}
+use Rattle.hir_store.specs.declared.error.StoreError.{StoreError}
+use Rattle.hir_store.specs.declared.error.StoreError.TheVariants.{Memory}
 use Rattle.hir_store.specs.declared.hir.Statement.{Statement}
 use Rattle.hir_store.specs.declared.ids.ExprId.{ExprId}
-use Rattle.hir_env.specs.Answered as tree
-use Rattle.hir_env.specs.Answered.{Stmt, Stmts}
+use Rattle.hir_env.specs.ResolvedTree as tree
+use Rattle.hir_env.specs.ResolvedTree.{Stmt, Stmts}
 use Rattle.hir_env.specs.Answering.{ended, stmt_at}
 use Rattle.hir_env.specs.Calls.{append}
 use Rattle.hir_env.specs.Layers.{Defined, Spliced, StmtReading}
-use Rattle.hir_env.specs.Spot.{Spot}
+use Rattle.hir_env.specs.ResolveCtx.{ResolveCtx}
 use Rattle.hir_env.specs.Whole.{into, pointer_at, reader, stmt_level}
 use Rattle.hir_env.proofs.Levels.{stmt_is_level}
-use Rattle.hir_lower_form.specs.Builder.{Builder}
-use Rattle.hir_lower_form.specs.Lower.{StoredContents, kept_part, lower_stmt, push_some}
-use Rattle.hir_lower_form.specs.Lowering.{Checked, Lowering, Lowers, SomeEnd, go_on, pure}
-use Rattle.hir_lower_form.specs.Nests.{Each}
+use Rattle.hir_lower_builder.specs.Builder.{Builder}
+use Rattle.hir_lower_builder.specs.Lower.{StoredContents, kept_part, lower_stmt, push_some}
+use Rattle.hir_lower_builder.specs.Lowering.{Checked, Lowering, Lowers, SomeEnd, go_on, pure}
+use Rattle.hir_lower_builder.specs.Nests.{Each}
 use Rattle.hir_lower_expr.specs.Runs.{Counts, StmtsBehind, ValueBehind, expr_stmt, inside, lower_run, lower_value, run_part, value_part}
 use Rattle.hir_lower_expr.specs.declared.runs.Run.{Run}
 
 -- what is read
 
 -- statements behind what was read
-abbrev then_run : Spot → List AstStmt → StmtReading → StmtReading
+abbrev then_run : ResolveCtx → List AstStmt → StmtReading → StmtReading
 then_run at ss r = record { stmts = append r.stmts (run_part at ss r.defined).stmts; defined = (run_part at ss r.defined).defined }
 
-pub run_more : (at : Spot) (s : AstStmt) (ss : List AstStmt) (d : Defined) → run_part at (s ∷ ss) d ≡ then_run at ss (stmt_level at d s)
+pub run_more : (at : ResolveCtx) (s : AstStmt) (ss : List AstStmt) (d : Defined)
+    → run_part at (s ∷ ss) d ≡ then_run at ss (stmt_level at d s)
 run_more at s ss d = ap (then_run at ss) (stmt_is_level at d s)
 
 -- an expression statement
-pub stmt_expr : (at : Spot) (s : AstStmt) (e : Option AstExpr) (semi : Bool) (d : Defined) → s.kind ≡ kind.ExprStmt e semi
+pub stmt_expr : (at : ResolveCtx) (s : AstStmt) (e : Option AstExpr) (semi : Bool) (d : Defined) → s.kind ≡ kind.ExprStmt e semi
     → stmt_level at d s ≡ ended semi (value_part at e d)
 stmt_expr at s e semi d h =
     ap (λ k. stmt_at at.answers (reader at.answers (into at)) k at.place (pointer_at at s.id s.range) d)
@@ -100,19 +101,19 @@ still_has old new ss h k =
     (omega (arith, h, k.0), omega (arith, h, k.1), omega (arith, h, k.2), omega (arith, h, k.3))
 
 -- what is refused is refused in what it stands in
-pub refused : {A : Type 0} (Has : Stored → A → Type 0) (steps : Lowering A) (old : Builder) (e : StoreFault) (r : Checked A)
+pub refused : {A : Type 0} (Has : Stored → A → Type 0) (steps : Lowering A) (old : Builder) (e : StoreError) (r : Checked A)
     (new : Builder) → IsErrAnd r (λ f. f ≡ e) → (e ≢ Memory → (steps old ≡ (Err e, new)) × SomeEnd new) → Lowers Has steps old r new
 refused Has steps old e (Ok a) new is h = absurd is
 refused Has steps old e (Err f) new is h = rw is h
 
-pub value_refused : (read : Defined → Spliced) (was is : Run) (old : Builder) (e : StoreFault) (r : Checked (Option ExprId)) (new : Builder)
+pub value_refused : (read : Defined → Spliced) (was is : Run) (old : Builder) (e : StoreError) (r : Checked (Option ExprId)) (new : Builder)
     → IsErrAnd r (λ f. f ≡ e)
     → ((d : Defined) → Counts was.counts.entries d → e ≢ Memory → (lower_value was.done (read d) old ≡ (Err e, new)) × SomeEnd new)
     → ValueBehind read was old r is new
 value_refused read was is old e (Ok a) new same h = absurd same
 value_refused read was is old e (Err f) new same h = rw same h
 
-pub stmts_refused : (read : Defined → StmtReading) (was is : Run) (old : Builder) (e : StoreFault) (r : Checked (Unit {0})) (new : Builder)
+pub stmts_refused : (read : Defined → StmtReading) (was is : Run) (old : Builder) (e : StoreError) (r : Checked (Unit {0})) (new : Builder)
     → IsErrAnd r (λ f. f ≡ e)
     → ((d : Defined) → Counts was.counts.entries d → e ≢ Memory → (lower_run was.done (read d).stmts old ≡ (Err e, new)) × SomeEnd new)
     → StmtsBehind read was old r is new
@@ -154,7 +155,7 @@ ended_on r semi done c =
     run_append done r.stmts (tree.more_stmts (tree.expr_stmt r.last semi) tree.no_stmts) c
     ∙ last_then r semi (lower_run done r.stmts c).0 (lower_run done r.stmts c).1
 
-pub ended_behind : (at : Spot) (s : AstStmt) (e : Option AstExpr) (semi : Bool) (was done now : List Statement) (v : Option ExprId)
+pub ended_behind : (at : ResolveCtx) (s : AstStmt) (e : Option AstExpr) (semi : Bool) (was done now : List Statement) (v : Option ExprId)
     (old new : Builder) (d : Defined) → s.kind ≡ kind.ExprStmt e semi → lower_value was (value_part at e d) old ≡ (Ok (done, v), new)
     → now ≡ push_some done (expr_stmt v semi) → lower_run was (stmt_level at d s).stmts old ≡ (Ok now, new)
 ended_behind at s e semi was done now v old new d h k is =
@@ -162,7 +163,7 @@ ended_behind at s e semi was done now v old new d h k is =
     ∙ (ended_on (value_part at e d) semi was old
     ∙ (ap (λ z. go_on z.0 z.1 (ended_by semi)) k ∙ ap (λ xs. (Ok xs, new)) (sym is)))
 
-pub ended_refused : (at : Spot) (s : AstStmt) (e : Option AstExpr) (semi : Bool) (was : List Statement) (x : StoreFault)
+pub ended_refused : (at : ResolveCtx) (s : AstStmt) (e : Option AstExpr) (semi : Bool) (was : List Statement) (x : StoreError)
     (old new : Builder) (d : Defined) → s.kind ≡ kind.ExprStmt e semi → lower_value was (value_part at e d) old ≡ (Err x, new)
     → lower_run was (stmt_level at d s).stmts old ≡ (Err x, new)
 ended_refused at s e semi was x old new d h k =
@@ -202,22 +203,23 @@ none_left [] h = refl
 none_left (x ∷ xs) h = absurd (omega (arith, h))
 
 -- What is still to be done of a run comes to the same as all of it.
-pub record RunOn (at : Spot) (was : Run) (old : Builder) (is : Run) (new : Builder) (all left : List AstStmt) (d : Defined) : Type 0 where
+pub record RunOn (at : ResolveCtx) (was : Run) (old : Builder) (is : Run) (new : Builder) (all left : List AstStmt)
+    (d : Defined) : Type 0 where
   pub since : Defined
   pub counts : Counts is.counts.entries since
   pub steps : lower_run was.done (run_part at all d).stmts old ≡ lower_run is.done (run_part at left since).stmts new
   pub defined : (run_part at all d).defined ≡ (run_part at left since).defined
 
-first_on : (at : Spot) (xs : List AstStmt) (x : AstStmt) (d : Defined) → x ≡ slice_index_or xs 0 x → 1 ≤ length xs
+first_on : (at : ResolveCtx) (xs : List AstStmt) (x : AstStmt) (d : Defined) → x ≡ slice_index_or xs 0 x → 1 ≤ length xs
     → run_part at xs d ≡ then_run at (take (length xs - 1) (drop 1 xs)) (stmt_level at d x)
 first_on at xs x d h le =
     ap (λ ys. run_part at ys d) (first_of xs x h le) ∙ run_more at x (take (length xs - 1) (drop 1 xs)) d
 
-pub run_begins : (at : Spot) (was : Run) (old : Builder) (all : List AstStmt) (d : Defined) → Counts was.counts.entries d
+pub run_begins : (at : ResolveCtx) (was : Run) (old : Builder) (all : List AstStmt) (d : Defined) → Counts was.counts.entries d
     → RunOn at was old was old all all d
 run_begins at was old all d h = record { since = d; counts = h; steps = refl; defined = refl }
 
-pub run_goes_on : (at : Spot) (was is now : Run) (old new next : Builder) (all xs : List AstStmt) (x : AstStmt) (d : Defined)
+pub run_goes_on : (at : ResolveCtx) (was is now : Run) (old new next : Builder) (all xs : List AstStmt) (x : AstStmt) (d : Defined)
     → x ≡ slice_index_or xs 0 x → 1 ≤ length xs → RunOn at was old is new all xs d
     → StmtsBehind (λ e. stmt_level at e x) is new (Ok tt) now next
     → RunOn at was old now next all (take (length xs - 1) (drop 1 xs)) d
@@ -233,8 +235,8 @@ run_goes_on at was is now old new next all xs x d h le on one =
       defined = on.defined ∙ ap (λ y. y.defined) first;
     }
 
-pub run_refused : (at : Spot) (was is now : Run) (old new next : Builder) (all xs : List AstStmt) (x : AstStmt) (d : Defined)
-    (e : StoreFault)
+pub run_refused : (at : ResolveCtx) (was is now : Run) (old new next : Builder) (all xs : List AstStmt) (x : AstStmt) (d : Defined)
+    (e : StoreError)
     → x ≡ slice_index_or xs 0 x → 1 ≤ length xs → RunOn at was old is new all xs d
     → StmtsBehind (λ e. stmt_level at e x) is new (Err e) now next → e ≢ Memory
     → (lower_run was.done (run_part at all d).stmts old ≡ (Err e, next)) × SomeEnd next
@@ -248,7 +250,7 @@ run_refused at was is now old new next all xs x d e h le on one other =
       k.1,
     )
 
-pub run_ends : (at : Spot) (was is : Run) (old new : Builder) (all left : List AstStmt) (d : Defined) → left ≡ []
+pub run_ends : (at : ResolveCtx) (was is : Run) (old new : Builder) (all left : List AstStmt) (d : Defined) → left ≡ []
     → RunOn at was old is new all left d
     → (lower_run was.done (run_part at all d).stmts old ≡ (Ok is.done, new)) × Counts is.counts.entries (run_part at all d).defined
 run_ends at was is old new all left d h on = (

@@ -10,33 +10,35 @@ use Rattle.hir_syntax.specs.declared.macros.MacroCall.{MacroCall as AstMacroCall
 use Rattle.hir_syntax.specs.declared.macros.MacroStmts.{MacroStmts as AstMacroStmts}
 use Rattle.hir_store.specs.Pointers.{Pointer}
 use Rattle.hir_store.specs.declared.diagnostics.ExpressionStoreDiagnostics.TheVariants.{InactiveCode}
-use Rattle.hir_store.specs.declared.fault.StoreFault.{StoreFault}
-use Rattle.hir_store.specs.declared.fault.StoreFault.TheVariants.{Memory}
+use Rattle.hir_store.specs.declared.error.StoreError.{StoreError}
+use Rattle.hir_store.specs.declared.error.StoreError.TheVariants.{Memory}
 use Rattle.hir_store.specs.declared.hir.Statement.{Statement}
 use Rattle.hir_store.specs.declared.ids.CfgId.{CfgId}
 use Rattle.hir_store.specs.declared.ids.ExprId.{ExprId}
 use Rattle.hir_env.specs.Answers.{Answers, Expanding, unresolved, no_expansion, expanded}
-use Rattle.hir_env.specs.Answered as tree
-use Rattle.hir_env.specs.Answered.{Entered, Expr, OptionExpr, Stmt}
+use Rattle.hir_env.specs.ResolvedTree as tree
+use Rattle.hir_env.specs.ResolvedTree.{Entered, Expr, OptionExpr, Stmt}
 use Rattle.hir_env.specs.Answering.{asked_splice, expr_kind, value_kind, whole_value}
 use Rattle.hir_env.specs.Calls.{around, asked_call, call_pointer, called, entered_splice, inside_file, nothing, splice_in, spliced_last}
 use Rattle.hir_env.specs.Layers.{Defined, Entering, ExprKindLayer, Spliced, StmtReading}
-use Rattle.hir_env.specs.Spot.{Spot, ptr, site_of}
-use Rattle.hir_env.specs.Whole.{answered, answered_value, entering, into, pointer_at, read_expr, read_pat, read_stmt, read_type, read_value}
+use Rattle.hir_env.specs.ResolveCtx.{ResolveCtx, ptr, site_of}
+use Rattle.hir_env.specs.Whole.{resolved_expr, resolved_value, entering, into, pointer_at, read_expr, read_pat, read_stmt, read_type}
+use Rattle.hir_env.specs.Whole.{read_value}
 use Rattle.hir_env.specs.Whole.{reader, written}
 use Rattle.hir_env.specs.declared.expand.FragmentKind.TheVariants as kind
-use Rattle.hir_env.specs.declared.place.Place.{Place}
+use Rattle.hir_env.specs.declared.ctx.LowerCtx.{LowerCtx}
 use Rattle.hir_env.proofs.Levels.{expr_is_level, value_is_level}
-use Rattle.hir_lower_form.specs.Builder.{Builder}
-use Rattle.hir_lower_form.specs.Calls.{Found, found_in, note, note_gone, splice_entered, splice_left, splice_step, told_splice}
-use Rattle.hir_lower_form.specs.Forms.{called_form, paren_form}
-use Rattle.hir_lower_form.specs.Lower.{StoredContents, kept_part, lower, lower_kept, push_some}
+use Rattle.hir_lower_builder.specs.Builder.{Builder}
+use Rattle.hir_lower_builder.specs.Calls.{Found, found_in, track, track_gone, splice_entered, splice_left, splice_step, emitted_splice}
+use Rattle.hir_lower_builder.specs.Forms.{called_form, paren_form}
+use Rattle.hir_lower_builder.specs.Lower.{StoredContents, kept_part, lower, lower_kept, push_some}
 use Rattle.hir_store.specs.Range.{HasExprOption}
-use Rattle.hir_lower_form.specs.Lowering.{Checked, Lowering, Lowers, SomeEnd, ◌>>=◌, go_on, pure, report}
-use Rattle.hir_lower_form.specs.Methods.{MaybeLowersExpr, at_place}
-use Rattle.hir_lower_form.specs.Nests.{Claims, KidsRun, claims_at}
+use Rattle.hir_lower_builder.specs.Lowering.{Checked, Lowering, Lowers, SomeEnd, ◌>>=◌, go_on, pure, report}
+use Rattle.hir_lower_builder.specs.Methods.{MaybeLowersExpr, at_place}
+use Rattle.hir_lower_builder.specs.Nests.{Claims, KidsRun, claims_at}
 use Rattle.hir_lower_expr.specs.Calls.{call_in, pointed}
-use Rattle.hir_lower_expr.specs.Runs.{Counts, MayEnter, StmtsBehind, StmtsThere, ValueBehind, enabled, lower_run, lower_value, run_part}
+use Rattle.hir_lower_expr.specs.Runs.{Counts, MayEnter, StmtsBehind, StmtsThere, ValueBehind, check_enabled, lower_run, lower_value}
+use Rattle.hir_lower_expr.specs.Runs.{run_part}
 use Rattle.hir_lower_expr.specs.Runs.{splice_part, spliced_call, stmts_there, value_part}
 use Rattle.hir_lower_expr.specs.declared.runs.Run.{Run}
 use Rattle.hir_lower_expr.proofs.CallLemmas.{gone_after, kept_after}
@@ -44,14 +46,14 @@ use Rattle.hir_lower_expr.proofs.RunLemmas.{value_append}
 
 -- what is no call
 
-whole_at : (at : Spot) (k : ExprKindLayer written) (n : AstPtr) (d : Defined) → call_in k ≡ None
+whole_at : (at : ResolveCtx) (k : ExprKindLayer written) (n : AstPtr) (d : Defined) → call_in k ≡ None
     → value_kind at.answers (reader at.answers (into at)) k n at.place d
     ≡ whole_value (expr_kind at.answers (reader at.answers (into at)) k n at.place) d
 whole_at at (ExprKind-F.MacroExpr c) n d h = cc
 whole_at at _ n d h = refl
 
-value_whole : (at : Spot) (e : AstExpr) (d : Defined) → call_in (out-ExprKind e.kind) ≡ None
-    → answered_value at d e ≡ whole_value (answered at e) d
+value_whole : (at : ResolveCtx) (e : AstExpr) (d : Defined) → call_in (out-ExprKind e.kind) ≡ None
+    → resolved_value at d e ≡ whole_value (resolved_expr at e) d
 value_whole at e d h =
     value_is_level at d e ∙ (whole_at at (out-ExprKind e.kind) (ptr e.id e.range) d h
     ∙ ap (λ x. whole_value x d) (sym (expr_is_level at e)))
@@ -62,23 +64,23 @@ whole_on e was old (Ok id) new h = λ d counts. (ap (λ z. go_on z.0 z.1 (λ t. 
 whole_on e was old (Err x) new h =
     λ d counts other. let k = h other in (ap (λ z. go_on z.0 z.1 (λ t. pure (was.done, t))) k.0, k.1)
 
-pub whole_behind : (at : Spot) (e : AstExpr) (was : Run) (old : Builder) (r : Checked (Option ExprId)) (new : Builder)
-    → call_in (out-ExprKind e.kind) ≡ None → MaybeLowersExpr (answered at e) old r new
-    → ValueBehind (λ d. answered_value at d e) was old r was new
+pub whole_behind : (at : ResolveCtx) (e : AstExpr) (was : Run) (old : Builder) (r : Checked (Option ExprId)) (new : Builder)
+    → call_in (out-ExprKind e.kind) ≡ None → MaybeLowersExpr (resolved_expr at e) old r new
+    → ValueBehind (λ d. resolved_value at d e) was old r was new
 whole_behind at e was old r new no_call h =
     subst (λ read. ValueBehind read was old r was new) (λ i d. sym (value_whole at e d no_call) i)
-    (whole_on (answered at e) was old r new h)
+    (whole_on (resolved_expr at e) was old r new h)
 
 -- a call, which a condition may disable
 
-abbrev pub call_value : Spot → Pointer → Option AstMacroCall → Defined → Spliced
+abbrev pub call_value : ResolveCtx → Pointer → Option AstMacroCall → Defined → Spliced
 call_value at s None d = nothing d
 call_value at s (Some c) d = spliced_call at s c d
 
-abbrev pub asked_value : Spot → Pointer → Option AstMacroCall → Defined → Spliced
+abbrev pub asked_value : ResolveCtx → Pointer → Option AstMacroCall → Defined → Spliced
 asked_value at s c d = asked_splice s (at.answers.cfg (site_of s)) (call_value at s c d) d
 
-called_at : (at : Spot) (e : AstExpr) (k : ExprKindLayer written) (c : Option AstMacroCall) (d : Defined) → call_in k ≡ Some c
+called_at : (at : ResolveCtx) (e : AstExpr) (k : ExprKindLayer written) (c : Option AstMacroCall) (d : Defined) → call_in k ≡ Some c
     → value_kind at.answers (reader at.answers (into at)) k (ptr e.id e.range) at.place d ≡ asked_value at (pointer_at at e.id e.range) c d
 called_at at e (ExprKind-F.MacroExpr None) c d h =
     let same : None ≡ c = cc in ap (λ x. asked_value at (pointer_at at e.id e.range) x d) same
@@ -86,8 +88,8 @@ called_at at e (ExprKind-F.MacroExpr (Some x)) c d h =
     let same : Some x ≡ c = cc in ap (λ x. asked_value at (pointer_at at e.id e.range) x d) same
 called_at at e _ c d h = cc
 
-pub value_called : (at : Spot) (e : AstExpr) (c : Option AstMacroCall) → call_in (out-ExprKind e.kind) ≡ Some c
-    → (λ d. answered_value at d e) ≡ asked_value at (pointer_at at e.id e.range) c
+pub value_called : (at : ResolveCtx) (e : AstExpr) (c : Option AstMacroCall) → call_in (out-ExprKind e.kind) ≡ Some c
+    → (λ d. resolved_value at d e) ≡ asked_value at (pointer_at at e.id e.range) c
 value_called at e c h = λ i d. (value_is_level at d e ∙ called_at at e (out-ExprKind e.kind) c d h) i
 
 abbrev pub flag_or : Bool → Checked Bool → Bool
@@ -95,13 +97,14 @@ flag_or b (Ok c) = c
 flag_or b (Err e) = b
 
 -- whether it is enabled is known from what was told
-pub is_on : (s : Pointer) (r : Result (Unit {0}) CfgId) (old new : Builder) → enabled s r old ≡ (Ok true, new) → (r ≡ Ok tt) × (old ≡ new)
+pub is_on : (s : Pointer) (r : Result (Unit {0}) CfgId) (old new : Builder) → check_enabled s r old ≡ (Ok true, new)
+    → (r ≡ Ok tt) × (old ≡ new)
 is_on s (Ok _) old new h = (refl, ap (λ z. z.1) h)
-is_on s (Err by) old new h = absurd (told_on (report (InactiveCode s by) old).0 (report (InactiveCode s by) old).1 h)
+is_on s (Err by) old new h = absurd (emitted_on (report (InactiveCode s by) old).0 (report (InactiveCode s by) old).1 h)
   where
-    told_on : (o : Checked (Unit {0})) (c : Builder) → go_on o c (λ _. pure false) ≡ (Ok true, new) → ⊥
-    told_on (Ok _) c k = true≢false (sym (ap (λ z. flag_or true z.0) k))
-    told_on (Err e) c k = true≢false (sym (ap (λ z. flag_or false z.0) k))
+    emitted_on : (o : Checked (Unit {0})) (c : Builder) → go_on o c (λ _. pure false) ≡ (Ok true, new) → ⊥
+    emitted_on (Ok _) c k = true≢false (sym (ap (λ z. flag_or true z.0) k))
+    emitted_on (Err e) c k = true≢false (sym (ap (λ z. flag_or false z.0) k))
 
 -- what a condition disables leaves what was done
 left_on : (done : List Statement) (o : Checked (Unit {0})) (c : Builder)
@@ -112,7 +115,7 @@ left_on done (Err e) c = refl
 
 pub disabled_on : (s : Pointer) (by : CfgId) (x : Stmt) (done : List Statement) (c : Builder)
     → lower_run done (tree.more_stmts (tree.disabled_stmt s by x) tree.no_stmts) c
-    ≡ go_on (enabled s (Err by) c).0 (enabled s (Err by) c).1 (λ _. pure done)
+    ≡ go_on (check_enabled s (Err by) c).0 (check_enabled s (Err by) c).1 (λ _. pure done)
 disabled_on s by x done c = let t = report (InactiveCode s by) c in left_on done t.0 t.1
 
 gone_on : (done : List Statement) (o : Checked Bool) (c : Builder)
@@ -122,20 +125,21 @@ gone_on done (Ok _) c = refl
 gone_on done (Err e) c = refl
 
 disabled_value : (s : Pointer) (by : CfgId) (x : Spliced) (d : Defined) (done : List Statement) (c : Builder)
-    → lower_value done (asked_splice s (Err by) x d) c ≡ go_on (enabled s (Err by) c).0 (enabled s (Err by) c).1 (λ _. pure (done, None))
+    → lower_value done (asked_splice s (Err by) x d) c
+    ≡ go_on (check_enabled s (Err by) c).0 (check_enabled s (Err by) c).1 (λ _. pure (done, None))
 disabled_value s by x d done c =
     ap (λ z. go_on z.0 z.1 (λ xs. pure {A = StoredContents} (xs, None))) (disabled_on s by tree.item_stmt done c)
-    ∙ gone_on done (enabled s (Err by) c).0 (enabled s (Err by) c).1
+    ∙ gone_on done (check_enabled s (Err by) c).0 (check_enabled s (Err by) c).1
 
 pub off_behind : (s : Pointer) (r : Result (Unit {0}) CfgId) (x : Defined → Spliced) (was : Run) (old new : Builder)
-    → enabled s r old ≡ (Ok false, new) → ValueBehind (λ d. asked_splice s r (x d) d) was old (Ok None) was new
+    → check_enabled s r old ≡ (Ok false, new) → ValueBehind (λ d. asked_splice s r (x d) d) was old (Ok None) was new
 off_behind s (Ok _) x was old new h = absurd (true≢false (ap (λ z. flag_or true z.0) h))
 off_behind s (Err by) x was old new h =
     λ d counts. (disabled_value s by (x d) d was.done old ∙ ap (λ z. go_on z.0 z.1 (λ _. pure (was.done, None))) h, counts)
 
 pub off_refused : (s : Pointer) (r : Result (Unit {0}) CfgId) (x : Defined → Spliced) (d : Defined) (done : List Statement)
     (old new : Builder)
-    (e : StoreFault) → enabled s r old ≡ (Err e, new) → lower_value done (asked_splice s r (x d) d) old ≡ (Err e, new)
+    (e : StoreError) → check_enabled s r old ≡ (Err e, new) → lower_value done (asked_splice s r (x d) d) old ≡ (Err e, new)
 off_refused s (Ok _) x d done old new e h = absurd (true≢false (ap (λ z. flag_or false z.0) h))
 off_refused s (Err by) x d done old new e h =
     disabled_value s by (x d) d done old ∙ ap (λ z. go_on z.0 z.1 (λ _. pure (done, None))) h
@@ -154,7 +158,7 @@ nothing_behind was old = λ d counts. (refl, counts)
 -- what stands behind the statements is found at the call, too
 spliced_kept : (s : Pointer) (e : Expr) (b : Builder)
     → lower_kept (around s tree.spliced (tree.some_expr e)) b ≡ (lower_kept e >>= pointed s) b
-unfolding called_form paren_form note_gone
+unfolding called_form paren_form track_gone
 spliced_kept s (tree.disabled_expr why e) b = gone_after (Ok tt) b why s
 spliced_kept s e b = kept_after (Ok tt) b s (lower e)
 
@@ -194,60 +198,61 @@ fresh env n = record {
 }
 
 -- what the code does with it
-abbrev pub splice_there : Spot → Pointer → List Statement → Defined → StmtsThere → Lowering StoredContents
+abbrev pub splice_there : ResolveCtx → Pointer → List Statement → Defined → StmtsThere → Lowering StoredContents
 splice_there at s done d None = pure (done, None)
 splice_there at s done d (Some x) =
     lower_value done (splice_part (at_place at x.0) x.1.stmts x.1.expr d) >>= then_pointed s
 
-abbrev pub defined_there : Spot → Defined → StmtsThere → Defined
+abbrev pub defined_there : ResolveCtx → Defined → StmtsThere → Defined
 defined_there at d None = d
 defined_there at d (Some x) = (splice_part (at_place at x.0) x.1.stmts x.1.expr d).defined
 
-abbrev there : Spot → Pointer → List Statement → Defined → Found → Lowering StoredContents
+abbrev there : ResolveCtx → Pointer → List Statement → Defined → Found → Lowering StoredContents
 there at s done d f = splice_there at s done d (stmts_there f)
 
 -- a call that is entered, and stands for no statements
-noted_nothing : (done : List Statement) (o : Checked (Unit {0})) (b : Builder) (x : Found) (F : Found → Lowering StoredContents)
+tracked_nothing : (done : List Statement) (o : Checked (Unit {0})) (b : Builder) (x : Found) (F : Found → Lowering StoredContents)
     → F x ≡ pure (done, None)
     → (let s = go_on o b (λ _. pure {A = Option Statement} None) in
     let r = go_on s.0 s.1 (λ x. pure (push_some done x)) in go_on r.0 r.1 (λ xs. pure {A = StoredContents} (xs, None)))
     ≡ go_on (go_on o b (λ _. pure x)).0 (go_on o b (λ _. pure x)).1 F
-noted_nothing done (Ok _) b x F h = λ i. sym h i b
-noted_nothing done (Err e) b x F h = refl
+tracked_nothing done (Ok _) b x F h = λ i. sym h i b
+tracked_nothing done (Err e) b x F h = refl
 
 -- and one that stands for some
-noted_run : (done : List Statement) (s : Pointer) (r : Spliced) (o : Checked (Unit {0})) (b : Builder) (x : Found)
+tracked_run : (done : List Statement) (s : Pointer) (r : Spliced) (o : Checked (Unit {0})) (b : Builder) (x : Found)
     (F : Found → Lowering StoredContents) → F x ≡ (lower_value done r >>= then_pointed s)
     → (let t = go_on o b (λ _. pure {A = Option Statement} None) in
     let u = go_on t.0 t.1 (λ x. lower_run (push_some done x) r.stmts) in
     go_on u.0 u.1 (λ xs d. go_on (kept_part (spliced_last s r.last) d).0 (kept_part (spliced_last s r.last) d).1 (with_done xs)))
     ≡ go_on (go_on o b (λ _. pure x)).0 (go_on o b (λ _. pure x)).1 F
-noted_run done s r (Ok _) b x F h =
+tracked_run done s r (Ok _) b x F h =
     ends_pointed s r.last (lower_run done r.stmts b).0 (lower_run done r.stmts b).1 ∙ (λ i. sym h i b)
-noted_run done s r (Err e) b x F h = refl
+tracked_run done s r (Err e) b x F h = refl
 
-spliced_by : (at : Spot) (s c : Pointer) (n : ℕ) (x : Expanding) (done : List Statement) (d : Defined) (b : Builder)
+spliced_by : (at : ResolveCtx) (s c : Pointer) (n : ℕ) (x : Expanding) (done : List Statement) (d : Defined) (b : Builder)
     → lower_value done (splice_in (fresh at.answers n) at.place s c x d) b ≡ (splice_step c n at.place x >>= there at s done d) b
 spliced_by at s c n (unresolved y) done d b = refl
 spliced_by at s c n no_expansion done d b = refl
 spliced_by at s c n (expanded f None es) done d b =
-    let t = note (record { call = c; file = f; eager = es }) b in
-    noted_nothing done t.0 t.1 (Some (inside_file f n at.place, None)) (there at s done d) refl
+    let t = track (record { call = c; file = f; eager = es }) b in
+    tracked_nothing done t.0 t.1 (Some (inside_file f n at.place, None)) (there at s done d) refl
 spliced_by at s c n (expanded f (Some (fragment.Stmts ms)) es) done d b =
-    let t = note (record { call = c; file = f; eager = es }) b in
+    let t = track (record { call = c; file = f; eager = es }) b in
     let q = inside_file f n at.place in
-    noted_run done s (splice_part (at_place at q) ms.stmts ms.expr d) t.0 t.1 (Some (q, Some (fragment.Stmts ms))) (there at s done d) refl
+    tracked_run done s (splice_part (at_place at q) ms.stmts ms.expr d) t.0 t.1 (Some (q, Some (fragment.Stmts ms)))
+    (there at s done d) refl
 spliced_by at s c n (expanded f (Some (fragment.Expr e)) es) done d b =
-    let t = note (record { call = c; file = f; eager = es }) b in
-    noted_nothing done t.0 t.1 (Some (inside_file f n at.place, Some (fragment.Expr e))) (there at s done d) refl
+    let t = track (record { call = c; file = f; eager = es }) b in
+    tracked_nothing done t.0 t.1 (Some (inside_file f n at.place, Some (fragment.Expr e))) (there at s done d) refl
 spliced_by at s c n (expanded f (Some (fragment.Pat e)) es) done d b =
-    let t = note (record { call = c; file = f; eager = es }) b in
-    noted_nothing done t.0 t.1 (Some (inside_file f n at.place, Some (fragment.Pat e))) (there at s done d) refl
+    let t = track (record { call = c; file = f; eager = es }) b in
+    tracked_nothing done t.0 t.1 (Some (inside_file f n at.place, Some (fragment.Pat e))) (there at s done d) refl
 spliced_by at s c n (expanded f (Some (fragment.Type_ e)) es) done d b =
-    let t = note (record { call = c; file = f; eager = es }) b in
-    noted_nothing done t.0 t.1 (Some (inside_file f n at.place, Some (fragment.Type_ e))) (there at s done d) refl
+    let t = track (record { call = c; file = f; eager = es }) b in
+    tracked_nothing done t.0 t.1 (Some (inside_file f n at.place, Some (fragment.Type_ e))) (there at s done d) refl
 
-splice_on : (at : Spot) (s : Pointer) (c : AstMacroCall) (done : List Statement) (d : Defined) (b : Builder)
+splice_on : (at : ResolveCtx) (s : Pointer) (c : AstMacroCall) (done : List Statement) (d : Defined) (b : Builder)
     → lower_value done (spliced_call at s c d) b ≡ (splice_entered at c >>= there at s done d) b
 splice_on at s c done d b = by at.place.left
   where
@@ -258,7 +263,7 @@ splice_on at s c done d b = by at.place.left
 
 -- what is found
 
-abbrev found_left : Answers → AstMacroCall → ℕ → Place → Found
+abbrev found_left : Answers → AstMacroCall → ℕ → LowerCtx → Found
 found_left env c zero p = None
 found_left env c (suc n) p = found_in n p (asked_call env kind.Stmts c p)
 
@@ -266,11 +271,11 @@ abbrev found_or : Found → Checked Found → Found
 found_or f (Ok x) = x
 found_or f (Err y) = f
 
-told_found : (o : Checked (Unit {0})) (c d : Builder) (f found : Found) → go_on o c (λ _. pure f) ≡ (Ok found, d) → f ≡ found
-told_found (Ok _) c d f found h = ap (λ z. found_or f z.0) h
-told_found (Err e) c d f found h = absurd (true≢false (sym (ap (λ z. is_ok z.0) h)))
+emitted_found : (o : Checked (Unit {0})) (c d : Builder) (f found : Found) → go_on o c (λ _. pure f) ≡ (Ok found, d) → f ≡ found
+emitted_found (Ok _) c d f found h = ap (λ z. found_or f z.0) h
+emitted_found (Err e) c d f found h = absurd (true≢false (sym (ap (λ z. is_ok z.0) h)))
 
-was_found : (at : Spot) (c : AstMacroCall) (b d : Builder) (found : Found) → splice_entered at c b ≡ (Ok found, d)
+was_found : (at : ResolveCtx) (c : AstMacroCall) (b d : Builder) (found : Found) → splice_entered at c b ≡ (Ok found, d)
     → found_left at.answers c at.place.left at.place ≡ found
 was_found at c b d found h = by at.place.left h
   where
@@ -278,10 +283,10 @@ was_found at c b d found h = by at.place.left h
     by zero k = ap (λ z. found_or None z.0) k
     by (suc n) k =
         let x = asked_call at.answers kind.Stmts c at.place in
-        let t = told_splice (called (call_pointer at.place c) x) b in told_found t.0 t.1 d (found_in n at.place x) found k
+        let t = emitted_splice (called (call_pointer at.place c) x) b in emitted_found t.0 t.1 d (found_in n at.place x) found k
 
 -- the definitions behind it
-defined_by : (at : Spot) (s c : Pointer) (n : ℕ) (x : Expanding) (d : Defined)
+defined_by : (at : ResolveCtx) (s c : Pointer) (n : ℕ) (x : Expanding) (d : Defined)
     → (splice_in (fresh at.answers n) at.place s c x d).defined ≡ defined_there at d (stmts_there (found_in n at.place x))
 defined_by at s c n (unresolved y) d = refl
 defined_by at s c n no_expansion d = refl
@@ -291,7 +296,7 @@ defined_by at s c n (expanded f (Some (fragment.Expr e)) es) d = refl
 defined_by at s c n (expanded f (Some (fragment.Pat e)) es) d = refl
 defined_by at s c n (expanded f (Some (fragment.Type_ e)) es) d = refl
 
-defined_on : (at : Spot) (s : Pointer) (c : AstMacroCall) (d : Defined) (b e : Builder) (found : Found)
+defined_on : (at : ResolveCtx) (s : Pointer) (c : AstMacroCall) (d : Defined) (b e : Builder) (found : Found)
     → splice_entered at c b ≡ (Ok found, e) → (spliced_call at s c d).defined ≡ defined_there at d (stmts_there found)
 defined_on at s c d b e found h = by at.place.left ∙ ap (λ f. defined_there at d (stmts_there f)) (was_found at c b e found h)
   where
@@ -304,7 +309,7 @@ defined_on at s c d b e found h = by at.place.left ∙ ap (λ f. defined_there a
 abbrev nowhere : StmtsThere
 nowhere = None
 
-abbrev place_or : Place → StmtsThere → Place
+abbrev place_or : LowerCtx → StmtsThere → LowerCtx
 place_or q None = q
 place_or q (Some x) = x.0
 
@@ -312,9 +317,10 @@ abbrev stmts_or : AstMacroStmts → StmtsThere → AstMacroStmts
 stmts_or ms None = ms
 stmts_or ms (Some x) = x.1
 
-module _ (C : Claims) (at : Spot) (c : AstMacroCall) (may : MayEnter C at c) where
+module _ (C : Claims) (at : ResolveCtx) (c : AstMacroCall) (may : MayEnter C at c) where
   kids_by : (n : ℕ) → at.place.left ≡ suc n → (x : Expanding) → asked_call at.answers kind.Stmts c at.place ≡ x
-      → (q : Place) (ms : AstMacroStmts) → stmts_there (found_in n at.place x) ≡ Some (q, ms) → KidsRun (claims_at C q) q ms.stmts ms.expr
+      → (q : LowerCtx) (ms : AstMacroStmts) → stmts_there (found_in n at.place x) ≡ Some (q, ms)
+      → KidsRun (claims_at C q) q ms.stmts ms.expr
   kids_by n h (unresolved y) k q ms is = cc
   kids_by n h no_expansion k q ms is = cc
   kids_by n h (expanded f None es) k q ms is = cc
@@ -327,7 +333,7 @@ module _ (C : Claims) (at : Spot) (c : AstMacroCall) (may : MayEnter C at c) whe
   kids_by n h (expanded f (Some (fragment.Pat x)) es) k q ms is = cc
   kids_by n h (expanded f (Some (fragment.Type_ x)) es) k q ms is = cc
 
-  pub call_kids : (b d : Builder) (found : Found) → splice_entered at c b ≡ (Ok found, d) → (q : Place) (ms : AstMacroStmts)
+  pub call_kids : (b d : Builder) (found : Found) → splice_entered at c b ≡ (Ok found, d) → (q : LowerCtx) (ms : AstMacroStmts)
       → stmts_there found ≡ Some (q, ms) → KidsRun (claims_at C q) q ms.stmts ms.expr
   call_kids b d found h q ms is = by at.place.left refl (ap stmts_there (was_found at c b d found h) ∙ is)
     where
@@ -337,7 +343,7 @@ module _ (C : Claims) (at : Spot) (c : AstMacroCall) (may : MayEnter C at c) whe
       by (suc n) e k = kids_by n e (asked_call at.answers kind.Stmts c at.place) refl q ms k
 
 -- and it is read where fewer may be entered
-left_by : (at : Spot) (n : ℕ) → at.place.left ≡ suc n → (x : Expanding) (q : Place) (ms : AstMacroStmts)
+left_by : (at : ResolveCtx) (n : ℕ) → at.place.left ≡ suc n → (x : Expanding) (q : LowerCtx) (ms : AstMacroStmts)
     → stmts_there (found_in n at.place x) ≡ Some (q, ms) → at.place.left ≡ suc q.left
 left_by at n h (unresolved y) q ms is = cc
 left_by at n h no_expansion q ms is = cc
@@ -348,8 +354,8 @@ left_by at n h (expanded f (Some (fragment.Expr x)) es) q ms is = cc
 left_by at n h (expanded f (Some (fragment.Pat x)) es) q ms is = cc
 left_by at n h (expanded f (Some (fragment.Type_ x)) es) q ms is = cc
 
-pub call_left : (at : Spot) (c : AstMacroCall) (b d : Builder) (found : Found) → splice_entered at c b ≡ (Ok found, d)
-    → (q : Place) (ms : AstMacroStmts) → stmts_there found ≡ Some (q, ms) → at.place.left ≡ suc q.left
+pub call_left : (at : ResolveCtx) (c : AstMacroCall) (b d : Builder) (found : Found) → splice_entered at c b ≡ (Ok found, d)
+    → (q : LowerCtx) (ms : AstMacroStmts) → stmts_there found ≡ Some (q, ms) → at.place.left ≡ suc q.left
 call_left at c b d found h q ms is = by at.place.left refl (ap stmts_there (was_found at c b d found h) ∙ is)
   where
     by : (l : ℕ) → at.place.left ≡ l → stmts_there (found_left at.answers c l at.place) ≡ Some (q, ms) → at.place.left ≡ suc q.left
@@ -359,17 +365,18 @@ call_left at c b d found h q ms is = by at.place.left refl (ap stmts_there (was_
 -- a call, step by step
 
 -- it is entered
-call_on : (at : Spot) (s : Pointer) (c : AstMacroCall) (done : List Statement) (d : Defined) (old b : Builder) (found : Found)
+call_on : (at : ResolveCtx) (s : Pointer) (c : AstMacroCall) (done : List Statement) (d : Defined) (old b : Builder) (found : Found)
     → splice_entered at c old ≡ (Ok found, b)
     → lower_value done (spliced_call at s c d) old ≡ splice_there at s done d (stmts_there found) b
 call_on at s c done d old b found h = splice_on at s c done d old ∙ ap (λ z. go_on z.0 z.1 (there at s done d)) h
 
-pub call_refused : (at : Spot) (s : Pointer) (c : AstMacroCall) (done : List Statement) (d : Defined) (old b : Builder) (e : StoreFault)
+pub call_refused : (at : ResolveCtx) (s : Pointer) (c : AstMacroCall) (done : List Statement) (d : Defined) (old b : Builder)
+    (e : StoreError)
     → splice_entered at c old ≡ (Err e, b) → lower_value done (spliced_call at s c d) old ≡ (Err e, b)
 call_refused at s c done d old b e h = splice_on at s c done d old ∙ ap (λ z. go_on z.0 z.1 (there at s done d)) h
 
 -- and stands for no statements
-pub call_nothing : (at : Spot) (s : Pointer) (c : AstMacroCall) (was : Run) (old b : Builder) (found : Found)
+pub call_nothing : (at : ResolveCtx) (s : Pointer) (c : AstMacroCall) (was : Run) (old b : Builder) (found : Found)
     → splice_entered at c old ≡ (Ok found, b) → stmts_there found ≡ None → ValueBehind (spliced_call at s c) was old (Ok None) was b
 call_nothing at s c was old b found h is = λ d counts. (
   call_on at s c was.done d old b found h ∙ ap (λ f. splice_there at s was.done d f b) is,
@@ -378,8 +385,8 @@ call_nothing at s c was old b found h is = λ d counts. (
 )
 
 -- or for some, which are read there
-module _ (at inner : Spot) (s : Pointer) (c : AstMacroCall) (was : Run) (old b : Builder) (found : Found)
-    (entered : splice_entered at c old ≡ (Ok found, b)) (q : Place) (ms : AstMacroStmts) (is : stmts_there found ≡ Some (q, ms))
+module _ (at inner : ResolveCtx) (s : Pointer) (c : AstMacroCall) (was : Run) (old b : Builder) (found : Found)
+    (entered : splice_entered at c old ≡ (Ok found, b)) (q : LowerCtx) (ms : AstMacroStmts) (is : stmts_there found ≡ Some (q, ms))
     (there_is : inner ≡ at_place at q) where
   abbrev stmts : Defined → StmtReading
   stmts = run_part inner ms.stmts
@@ -397,7 +404,7 @@ module _ (at inner : Spot) (s : Pointer) (c : AstMacroCall) (was : Run) (old b :
       ∙ (ap (λ x. (lower_value was.done (splice_part x ms.stmts ms.expr d) >>= then_pointed s) b) (sym there_is)
       ∙ ap (λ z. go_on z.0 z.1 (then_pointed s)) (value_append was.done (stmts d).stmts (last d) b)))
 
-  pub run_in_call_refused : (e : StoreFault) (d : Defined) (new : Builder) → lower_run was.done (stmts d).stmts b ≡ (Err e, new)
+  pub run_in_call_refused : (e : StoreError) (d : Defined) (new : Builder) → lower_run was.done (stmts d).stmts b ≡ (Err e, new)
       → lower_value was.done (spliced_call at s c d) old ≡ (Err e, new)
   run_in_call_refused e d new h =
       into_parts d
@@ -410,7 +417,7 @@ module _ (at inner : Spot) (s : Pointer) (c : AstMacroCall) (was : Run) (old b :
         into_parts d
         ∙ ap (λ z. let r = go_on z.0 z.1 (λ xs. lower_value xs (last d)) in go_on r.0 r.1 (then_pointed s)) (ran d counts).0
 
-    pub value_in_call_refused : (e : StoreFault) (now : Run) (d : Defined) (new : Builder) → Counts was.counts.entries d
+    pub value_in_call_refused : (e : StoreError) (now : Run) (d : Defined) (new : Builder) → Counts was.counts.entries d
         → ValueBehind (value_part inner ms.expr) run mid (Err e) now new → e ≢ Memory
         → (lower_value was.done (spliced_call at s c d) old ≡ (Err e, new)) × SomeEnd new
     value_in_call_refused e now d new counts h other =

@@ -15,8 +15,8 @@ use Rattle.hir_store.specs.Past.{join, past_present, past_statement, past_statem
 use Rattle.hir_store.specs.Pointers.{Pointer}
 use Rattle.hir_store.specs.Range.{Grows, HasExprOption, HasStatementOption, HasStatements}
 use Rattle.hir_store.specs.Stored.{Stored}
-use Rattle.hir_store.specs.declared.fault.StoreFault.{StoreFault}
-use Rattle.hir_store.specs.declared.fault.StoreFault.TheVariants.{Memory}
+use Rattle.hir_store.specs.declared.error.StoreError.{StoreError}
+use Rattle.hir_store.specs.declared.error.StoreError.TheVariants.{Memory}
 use Rattle.hir_store.specs.declared.hir.Statement.{Statement}
 use Rattle.hir_store.specs.declared.hir.Statement.TheVariants as statement
 use Rattle.hir_store.specs.declared.ids.CfgId.{CfgId}
@@ -24,43 +24,44 @@ use Rattle.hir_store.specs.declared.ids.ExprId.{ExprId}
 use Rattle.hir_store.specs.declared.ids.MacroDefId.{MacroDefId}
 use Rattle.hir_store.specs.declared.name.Name.{Name}
 use Rattle.hir_store.specs.declared.name.Name.TheVariants as name
-use Rattle.hir_env.specs.Answered as tree
-use Rattle.hir_env.specs.Answered.{Stmt}
+use Rattle.hir_env.specs.ResolvedTree as tree
+use Rattle.hir_env.specs.ResolvedTree.{Stmt}
 use Rattle.hir_env.specs.Answering.{alone, asked_rules, asked_stmt, def_named, rules_named, stmt_at}
 use Rattle.hir_env.specs.Calls.{times}
 use Rattle.hir_env.specs.Layers.{Defined, ExprKindLayer, StmtKindLayer, StmtReading}
-use Rattle.hir_env.specs.Spot.{Spot, site_of}
+use Rattle.hir_env.specs.ResolveCtx.{ResolveCtx, site_of}
 use Rattle.hir_env.specs.Whole.{expr_part, into, let_else_part, pat_part, pointer_at, reader, stmt_level, type_part, written}
 use Rattle.hir_env.specs.Wrapped.{AstLetElse}
-use Rattle.hir_env.specs.declared.place.Place.{Place}
-use Rattle.hir_lower_form.specs.Builder.{Builder}
-use Rattle.hir_lower_form.specs.Lower.{lower_stmt, push_some}
-use Rattle.hir_lower_form.specs.Lowering.{Checked, Lowering, Lowers, SomeEnd, go_on, pure}
-use Rattle.hir_lower_form.specs.Nests.{Claims, KidsOfValue}
+use Rattle.hir_env.specs.declared.ctx.LowerCtx.{LowerCtx}
+use Rattle.hir_lower_builder.specs.Builder.{Builder}
+use Rattle.hir_lower_builder.specs.Lower.{lower_stmt, push_some}
+use Rattle.hir_lower_builder.specs.Lowering.{Checked, Lowering, Lowers, SomeEnd, go_on, pure}
+use Rattle.hir_lower_builder.specs.Nests.{Claims, KidsOfValue}
 use Rattle.hir_lower_expr.specs.Calls.{call_in}
-use Rattle.hir_lower_expr.specs.Runs.{Counts, DefinesBehind, StmtsBehind, StmtsExist, ValueExists, count_in, enabled, inside, lower_run}
+use Rattle.hir_lower_expr.specs.Runs.{Counts, DefinesBehind, StmtsBehind, StmtsExist, ValueExists, count_in, check_enabled, inside}
+use Rattle.hir_lower_expr.specs.Runs.{lower_run}
 use Rattle.hir_lower_expr.specs.declared.runs.Run.{Run}
 use Rattle.hir_lower_expr.proofs.RunLemmas.{alone_on, grows_on, still_has}
 use Rattle.hir_lower_expr.proofs.SpliceLemmas.{disabled_on, flag_or}
 
 -- what is refused leaves nothing
-pub stmts_unplaced : (old new : Builder) (is : List Statement) (r : Checked (Unit {0})) (P : StoreFault → Type 0) → IsErrAnd r P
+pub stmts_unplaced : (old new : Builder) (is : List Statement) (r : Checked (Unit {0})) (P : StoreError → Type 0) → IsErrAnd r P
     → StmtsExist old r is new
 stmts_unplaced old new is (Ok _) P h = absurd h
 stmts_unplaced old new is (Err e) P h = tt
 
-pub value_unplaced : (old new : Builder) (is : List Statement) (r : Checked (Option ExprId)) (P : StoreFault → Type 0) → IsErrAnd r P
+pub value_unplaced : (old new : Builder) (is : List Statement) (r : Checked (Option ExprId)) (P : StoreError → Type 0) → IsErrAnd r P
     → ValueExists old r is new
 value_unplaced old new is (Ok _) P h = absurd h
 value_unplaced old new is (Err e) P h = tt
 
-abbrev reads : Spot → AstStmt → StmtKindLayer written → Defined → StmtReading
+abbrev reads : ResolveCtx → AstStmt → StmtKindLayer written → Defined → StmtReading
 reads at s k d = stmt_at at.answers (reader at.answers (into at)) k at.place (pointer_at at s.id s.range) d
 
-level_of : (at : Spot) (s : AstStmt) (k : StmtKindLayer written) → out-StmtKind s.kind ≡ k → (λ d. stmt_level at d s) ≡ reads at s k
+level_of : (at : ResolveCtx) (s : AstStmt) (k : StmtKindLayer written) → out-StmtKind s.kind ≡ k → (λ d. stmt_level at d s) ≡ reads at s k
 level_of at s k h = ap (λ x. reads at s x) h
 
-by_level : (at : Spot) (s : AstStmt) (k : StmtKindLayer written) (was is : Run) (old new : Builder) (o : Checked (Unit {0}))
+by_level : (at : ResolveCtx) (s : AstStmt) (k : StmtKindLayer written) (was is : Run) (old new : Builder) (o : Checked (Unit {0}))
     → out-StmtKind s.kind ≡ k → StmtsBehind (reads at s k) was old o is new → StmtsBehind (λ d. stmt_level at d s) was old o is new
 by_level at s k was is old new o h x = subst (λ read. StmtsBehind read was old o is new) (sym (level_of at s k h)) x
 
@@ -79,11 +80,11 @@ plain_behind x was old r new xs made h k is = λ d counts. (
   counts,
 )
 
-plain_refused : (x : Stmt) (done : List Statement) (old new : Builder) (e : StoreFault) → ((b : Builder) → inside x b ≡ b)
+plain_refused : (x : Stmt) (done : List Statement) (old new : Builder) (e : StoreError) → ((b : Builder) → inside x b ≡ b)
     → lower_stmt x old ≡ (Err e, new) → lower_run done (tree.more_stmts x tree.no_stmts) old ≡ (Err e, new)
 plain_refused x done old new e h k = alone_on x done old h ∙ ap (λ z. go_on z.0 z.1 (λ y. pure (push_some done y))) k
 
-module _ (at : Spot) (s : AstStmt) (p : Option AstPat) (t : Option AstType_) (e : Option AstExpr) (b : Option AstLetElse)
+module _ (at : ResolveCtx) (s : AstStmt) (p : Option AstPat) (t : Option AstType_) (e : Option AstExpr) (b : Option AstLetElse)
     (is : s.kind ≡ kind.LetStmt p t e b) where
   abbrev pub let_of : Stmt
   let_of =
@@ -106,13 +107,13 @@ module _ (at : Spot) (s : AstStmt) (p : Option AstPat) (t : Option AstType_) (e 
       by_level at s (StmtKind-F.LetStmt p t e b) was (record was { done = xs }) old new (Ok tt) let_kind
       (plain_behind let_of was old (Ok made) new xs made let_inside k same)
 
-  pub let_refused : (was : Run) (old new : Builder) (x : StoreFault) (d : Defined) → lower_stmt let_of old ≡ (Err x, new)
+  pub let_refused : (was : Run) (old new : Builder) (x : StoreError) (d : Defined) → lower_stmt let_of old ≡ (Err x, new)
       → lower_run was.done (stmt_level at d s).stmts old ≡ (Err x, new)
   let_refused was old new x d k =
       ap (λ read. lower_run was.done (read d).stmts old) (level_of at s (StmtKind-F.LetStmt p t e b) let_kind)
       ∙ plain_refused let_of was.done old new x let_inside k
 
-pub item_behind : (at : Spot) (s : AstStmt) (was : Run) (old : Builder) (xs : List Statement) → s.kind ≡ kind.Item
+pub item_behind : (at : ResolveCtx) (s : AstStmt) (was : Run) (old : Builder) (xs : List Statement) → s.kind ≡ kind.Item
     → xs ≡ was.done ++ statement.Item ∷ [] → StmtsBehind (λ d. stmt_level at d s) was old (Ok tt) (record was { done = xs }) old
 item_behind at s was old xs is same =
     by_level at s StmtKind-F.Item was (record was { done = xs }) old old (Ok tt)
@@ -121,7 +122,7 @@ item_behind at s was old xs is same =
 
 -- definitions
 
-module _ (at : Spot) (s : AstStmt) where
+module _ (at : ResolveCtx) (s : AstStmt) where
   abbrev node : Pointer
   node = pointer_at at s.id s.range
 
@@ -129,14 +130,14 @@ module _ (at : Spot) (s : AstStmt) where
   answer = at.answers.cfg (site_of node)
 
   -- one that a condition disables
-  off_refused : (x : StmtReading) (d : Defined) (done : List Statement) (r : Result (Unit {0}) CfgId) (old new : Builder) (e : StoreFault)
-      → enabled node r old ≡ (Err e, new) → lower_run done (asked_rules node r x d).stmts old ≡ (Err e, new)
+  off_refused : (x : StmtReading) (d : Defined) (done : List Statement) (r : Result (Unit {0}) CfgId) (old new : Builder) (e : StoreError)
+      → check_enabled node r old ≡ (Err e, new) → lower_run done (asked_rules node r x d).stmts old ≡ (Err e, new)
   off_refused x d done (Ok _) old new e h = absurd (true≢false (ap (λ z. flag_or false z.0) h))
   off_refused x d done (Err by) old new e h =
       disabled_on node by tree.item_stmt done old ∙ ap (λ z. go_on z.0 z.1 (λ _. pure done)) h
 
   off_behind : (x : Defined → StmtReading) (was : Run) (r : Result (Unit {0}) CfgId) (old new : Builder)
-      → enabled node r old ≡ (Ok false, new) → StmtsBehind (λ d. asked_rules node r (x d) d) was old (Ok tt) was new
+      → check_enabled node r old ≡ (Ok false, new) → StmtsBehind (λ d. asked_rules node r (x d) d) was old (Ok tt) was new
   off_behind x was (Ok _) old new h = absurd (true≢false (ap (λ z. flag_or true z.0) h))
   off_behind x was (Err by) old new h =
       λ d counts. (disabled_on node by tree.item_stmt was.done old ∙ ap (λ z. go_on z.0 z.1 (λ _. pure was.done)) h, counts)
@@ -150,13 +151,13 @@ module _ (at : Spot) (s : AstStmt) where
     rules_kind : out-StmtKind s.kind ≡ StmtKind-F.MacroRules n
     rules_kind = ap out-StmtKind (is ∙ sym (kind.rolls-MacroRules n)) ∙ out-roll-StmtKind (StmtKind-F.MacroRules n)
 
-    pub rules_unknown : (was : Run) (old new : Builder) (e : StoreFault) (d : Defined) → enabled node answer old ≡ (Err e, new)
+    pub rules_unknown : (was : Run) (old new : Builder) (e : StoreError) (d : Defined) → check_enabled node answer old ≡ (Err e, new)
         → lower_run was.done (stmt_level at d s).stmts old ≡ (Err e, new)
     rules_unknown was old new e d h =
         ap (λ read. lower_run was.done (read d).stmts old) (level_of at s (StmtKind-F.MacroRules n) rules_kind)
         ∙ off_refused (rules_named at.answers at.place n d) d was.done answer old new e h
 
-    pub rules_off : (was : Run) (old new : Builder) → enabled node answer old ≡ (Ok false, new)
+    pub rules_off : (was : Run) (old new : Builder) → check_enabled node answer old ≡ (Ok false, new)
         → StmtsBehind (λ d. stmt_level at d s) was old (Ok tt) was new
     rules_off was old new h =
         by_level at s (StmtKind-F.MacroRules n) was was old new (Ok tt) rules_kind
@@ -183,19 +184,19 @@ module _ (at : Spot) (s : AstStmt) where
     asked_as (Err by) was now old new (Ok _) h = h
     asked_as (Err by) was now old new (Err e) h = h
 
-    asked_to : (r : Result (Unit {0}) CfgId) (done : List Statement) (d : Defined) (old new : Builder) (e : StoreFault)
+    asked_to : (r : Result (Unit {0}) CfgId) (done : List Statement) (d : Defined) (old new : Builder) (e : StoreError)
         → lower_run done (asked_rules node r (alone def_of d) d).stmts old ≡ (Err e, new)
         → lower_run done (tree.more_stmts (asked_stmt node r def_of) tree.no_stmts) old ≡ (Err e, new)
     asked_to (Ok _) done d old new e h = h
     asked_to (Err by) done d old new e h = h
 
-    pub def_unknown : (was : Run) (old new : Builder) (e : StoreFault) (d : Defined) → enabled node answer old ≡ (Err e, new)
+    pub def_unknown : (was : Run) (old new : Builder) (e : StoreError) (d : Defined) → check_enabled node answer old ≡ (Err e, new)
         → lower_run was.done (stmt_level at d s).stmts old ≡ (Err e, new)
     def_unknown was old new e d h =
         ap (λ read. lower_run was.done (read d).stmts old) (level_of at s (StmtKind-F.MacroDef n) def_kind)
         ∙ asked_to answer was.done d old new e (off_refused (alone def_of d) d was.done answer old new e h)
 
-    pub def_off : (was : Run) (old new : Builder) → enabled node answer old ≡ (Ok false, new)
+    pub def_off : (was : Run) (old new : Builder) → check_enabled node answer old ≡ (Ok false, new)
         → StmtsBehind (λ d. stmt_level at d s) was old (Ok tt) was new
     def_off was old new h =
         by_level at s (StmtKind-F.MacroDef n) was was old new (Ok tt) def_kind
@@ -257,11 +258,11 @@ pub ends_in : (s : AstStmt) (e : Option AstExpr) (semi : Bool) → s.kind ≡ ki
     → out-StmtKind s.kind ≡ StmtKind-F.ExprStmt e semi
 ends_in s e semi is = ap out-StmtKind (is ∙ sym (kind.rolls-ExprStmt e semi)) ∙ out-roll-StmtKind (StmtKind-F.ExprStmt e semi)
 
-pub value_may : (C : Claims) (p : Place) (k : ExprKindLayer written) (e : AstExpr) → call_in k ≡ None → KidsOfValue C p k e → C.expr e
+pub value_may : (C : Claims) (p : LowerCtx) (k : ExprKindLayer written) (e : AstExpr) → call_in k ≡ None → KidsOfValue C p k e → C.expr e
 value_may C p (ExprKind-F.MacroExpr c) e h may = cc
 value_may C p _ e h may = may
 
-pub splice_may : (C : Claims) (p : Place) (k : ExprKindLayer written) (e : AstExpr) (c : Option AstMacroCall) → call_in k ≡ Some c
+pub splice_may : (C : Claims) (p : LowerCtx) (k : ExprKindLayer written) (e : AstExpr) (c : Option AstMacroCall) → call_in k ≡ Some c
     → KidsOfValue C p k e → C.splice p e
 splice_may C p (ExprKind-F.MacroExpr x) e c h may = may
 splice_may C p _ e c h may = cc
@@ -277,7 +278,7 @@ pub define_alone : (k : ℕ) (m : Option MacroDefId) (was : Run) (xs : List Stat
 define_alone k m was xs old new (Ok _) h = λ d counts. (h, counts)
 define_alone k m was xs old new (Err e) h = λ d counts other. h other
 
-pub define_unmet : (k : ℕ) (m : Option MacroDefId) (done xs : List Statement) (old : Builder) (e : StoreFault) (r : Checked (Unit {0}))
+pub define_unmet : (k : ℕ) (m : Option MacroDefId) (done xs : List Statement) (old : Builder) (e : StoreError) (r : Checked (Unit {0}))
     (new : Builder) → IsErrAnd r (λ f. f ≡ e)
     → (e ≢ Memory → (lower_run done (tree.more_stmts (tree.macro_stmt k m) tree.no_stmts) old ≡ (Err e, new)) × SomeEnd new)
     → DefinesBehind k m done old r xs new
@@ -285,7 +286,7 @@ define_unmet k m done xs old e (Ok _) new is h = absurd is
 define_unmet k m done xs old e (Err f) new is h = rw is h
 
 -- one by `macro_rules`, of the name that it has
-module _ (at : Spot) (n : AstName) (nm : Name) (named : nm ≡ name.Text n.t) (was : Run) (k : ℕ)
+module _ (at : ResolveCtx) (n : AstName) (nm : Name) (named : nm ≡ name.Text n.t) (was : Run) (k : ℕ)
     (counted : k ≡ count_in was.counts.entries nm)
     (m : Option MacroDefId) (found : m ≡ at.answers.legacy_macro at.place.module_id nm k) (old new : Builder) where
   abbrev rules : Defined → StmtReading
@@ -309,6 +310,6 @@ module _ (at : Spot) (n : AstName) (nm : Name) (named : nm ≡ name.Text n.t) (w
     subst (λ q. Counts now.counts.entries (q ∷ d)) named (up d counts (counted ∙ counts nm)),
   )
 
-  pub rules_undefined : (e : StoreFault) (xs : List Statement) (d : Defined) → DefinesBehind k m was.done old (Err e) xs new
+  pub rules_undefined : (e : StoreError) (xs : List Statement) (d : Defined) → DefinesBehind k m was.done old (Err e) xs new
       → Counts was.counts.entries d → e ≢ Memory → (lower_run was.done (rules d).stmts old ≡ (Err e, new)) × SomeEnd new
   rules_undefined e xs d h counts other = let k = h other in (as_read d counts ∙ k.0, k.1)

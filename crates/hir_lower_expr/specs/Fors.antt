@@ -1,5 +1,5 @@
 -- The items that a `for` takes, as the code says them.
-use Rattle.hir_env.specs.Answered.{ForItems}
+use Rattle.hir_env.specs.ResolvedTree.{ForItems}
 use Rattle.hir_lower_expr.specs.declared.fors.ForItems.{ForItems as CodeItems}
 
 abbrev pub items_of : CodeItems → ForItems

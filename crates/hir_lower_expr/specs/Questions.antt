@@ -1,5 +1,5 @@
 -- The items that a `?` takes, as the code says them.
-use Rattle.hir_env.specs.Answered.{QuestionItems}
+use Rattle.hir_env.specs.ResolvedTree.{QuestionItems}
 use Rattle.hir_lower_expr.specs.declared.questions.QuestionItems.{QuestionItems as CodeItems}
 
 abbrev pub items_of : CodeItems → QuestionItems

@@ -1,8 +1,8 @@
 -- What a range is made as, as the code says it.
 use Rattle.std.specs.Prelude.{Bool, true, false}
 use Rattle.hir_store.specs.declared.name.Name.{Name}
-use Rattle.hir_env.specs.Answered as tree
-use Rattle.hir_env.specs.Answered.{RangeForm}
+use Rattle.hir_env.specs.ResolvedTree as tree
+use Rattle.hir_env.specs.ResolvedTree.{RangeForm}
 use Rattle.hir_env.specs.Ranges.{end_name, last_name}
 use Rattle.hir_lower_expr.specs.declared.ranges.Made.{Made}
 use Rattle.hir_lower_expr.specs.declared.ranges.Made.TheVariants as made

@@ -11,52 +11,52 @@ use Rattle.hir_syntax.specs.declared.macros.MacroCall.{MacroCall as AstMacroCall
 use Rattle.hir_syntax.specs.declared.macros.MacroStmts.{MacroStmts as AstMacroStmts}
 use denote.Ref.{Bor}
 use Rattle.hir_base.specs.declared.node.HirFileId.{HirFileId}
-use Rattle.hir_scope.specs.Ribs.{macro_rib}
+use Rattle.hir_lower_scope.specs.ScopeRibs.{macro_rib}
 use Rattle.hir_store.specs.NameOrder.{name_cmp}
 use Rattle.hir_store.specs.Pointers.{Pointer}
 use Rattle.hir_store.specs.Range.{Grows, HasStatements}
 use Rattle.hir_store.specs.declared.diagnostics.ExpressionStoreDiagnostics.TheVariants.{InactiveCode}
-use Rattle.hir_store.specs.declared.fault.StoreFault.TheVariants.{Memory}
+use Rattle.hir_store.specs.declared.error.StoreError.TheVariants.{Memory}
 use Rattle.hir_store.specs.declared.hir.Statement.{Statement}
 use Rattle.hir_store.specs.declared.hir.Statement.TheVariants as statement
 use Rattle.hir_store.specs.declared.ids.CfgId.{CfgId}
 use Rattle.hir_store.specs.declared.ids.ExprId.{ExprId}
 use Rattle.hir_store.specs.declared.ids.MacroDefId.{MacroDefId}
 use Rattle.hir_store.specs.declared.name.Name.{Name}
-use Rattle.hir_env.specs.Answered as tree
-use Rattle.hir_env.specs.Answered.{Stmt, Stmts}
+use Rattle.hir_env.specs.ResolvedTree as tree
+use Rattle.hir_env.specs.ResolvedTree.{Stmt, Stmts}
 use Rattle.hir_env.specs.Answers.{Eager, expanded}
 use Rattle.hir_env.specs.Calls.{asked_call, entered_splice, inside_file, splice_of, stmts_of, times, value_or_none}
 use Rattle.hir_env.specs.Layers.{Defined, Spliced, StmtReading}
-use Rattle.hir_env.specs.Spot.{Spot}
+use Rattle.hir_env.specs.ResolveCtx.{ResolveCtx}
 use Rattle.hir_env.specs.Whole.{into, read_stmt, read_value}
 use Rattle.hir_env.specs.declared.expand.FragmentKind.TheVariants as kind
-use Rattle.hir_env.specs.declared.place.Place.{Place}
+use Rattle.hir_env.specs.declared.ctx.LowerCtx.{LowerCtx}
 use Rattle.hir_lower_scope.specs.Labels.{rest}
-use Rattle.hir_lower_form.specs.Builder.{Builder}
-use Rattle.hir_lower_form.specs.Calls.{Found}
-use Rattle.hir_lower_form.specs.Lower.{StoredContents, kept_part, lower_stmt, push_some}
-use Rattle.hir_lower_form.specs.Lowering.{Checked, Lowering, SomeEnd, ◌>>=◌, ◌>>◌, pure, report}
-use Rattle.hir_lower_form.specs.Methods.{HasContents}
-use Rattle.hir_lower_form.specs.Nests.{Claims, KidsRun, claims_at}
+use Rattle.hir_lower_builder.specs.Builder.{Builder}
+use Rattle.hir_lower_builder.specs.Calls.{Found}
+use Rattle.hir_lower_builder.specs.Lower.{StoredContents, kept_part, lower_stmt, push_some}
+use Rattle.hir_lower_builder.specs.Lowering.{Checked, Lowering, SomeEnd, ◌>>=◌, ◌>>◌, pure, report}
+use Rattle.hir_lower_builder.specs.Methods.{HasContents}
+use Rattle.hir_lower_builder.specs.Nests.{Claims, KidsRun, claims_at}
 use Rattle.hir_lower_expr.specs.declared.runs.Run.{Run}
 
 -- what is read
 
 -- the statements, behind these definitions
-abbrev pub run_part : Spot → List AstStmt → Defined → StmtReading
+abbrev pub run_part : ResolveCtx → List AstStmt → Defined → StmtReading
 run_part at ss d = stmts_of (read_stmt at.answers (into at)) (read_value at.answers (into at)) ss at.place d
 
 -- an expression in statement or tail place
-abbrev pub value_part : Spot → Option AstExpr → Defined → Spliced
+abbrev pub value_part : ResolveCtx → Option AstExpr → Defined → Spliced
 value_part at e d = value_or_none (read_stmt at.answers (into at)) (read_value at.answers (into at)) e at.place d
 
 -- statements, and what stands behind them
-abbrev pub splice_part : Spot → List AstStmt → Option AstExpr → Defined → Spliced
+abbrev pub splice_part : ResolveCtx → List AstStmt → Option AstExpr → Defined → Spliced
 splice_part at ss e d = splice_of (read_stmt at.answers (into at)) (read_value at.answers (into at)) ss e at.place d
 
 -- a call in statement or tail place
-abbrev pub spliced_call : Spot → Pointer → AstMacroCall → Defined → Spliced
+abbrev pub spliced_call : ResolveCtx → Pointer → AstMacroCall → Defined → Spliced
 spliced_call at s c d = entered_splice at.answers (into at) c at.place s d
 
 -- what is made of it
@@ -79,18 +79,15 @@ lower_value done r = do
   pure (xs, t)
 
 -- so many scopes are closed
-abbrev pub closed : ℕ → Builder → Builder
-closed zero b = b
-closed (suc n) b = closed n (record b { scopes = rest b.scopes })
+abbrev pub close_scopes : ℕ → Builder → Builder
+close_scopes zero b = b
+close_scopes (suc n) b = close_scopes n (record b { scopes = rest b.scopes })
 
 -- how many definitions of macros are among the statements
 abbrev pub definitions : List Statement → ℕ
 definitions [] = 0
 definitions (statement.MacroDef d ∷ ss) = suc (definitions ss)
 definitions (s ∷ ss) = definitions ss
-
-abbrev pub close_all : StoredContents → Lowering StoredContents
-close_all r b = (Ok r, closed (definitions r.0) b)
 
 -- counts of names
 
@@ -127,16 +124,16 @@ ValueExists old (Err e) is new = Unit {0}
 -- what a call stands for
 
 -- what it stands for may be handed in where it is entered
-abbrev pub MayEnter : Claims → Spot → AstMacroCall → Type 0
+abbrev pub MayEnter : Claims → ResolveCtx → AstMacroCall → Type 0
 MayEnter C at c = (n : ℕ) (f : HirFileId) (ms : AstMacroStmts) (es : List Eager) → at.place.left ≡ suc n
     → asked_call at.answers kind.Stmts c at.place ≡ expanded f (Some (fragment.Stmts ms)) es
     → let q = inside_file f n at.place in KidsRun (claims_at C q) q ms.stmts ms.expr
 
 -- the statements that are found, and where they are read
 abbrev pub StmtsThere : Type 0
-StmtsThere = Option (Place × AstMacroStmts)
+StmtsThere = Option (LowerCtx × AstMacroStmts)
 
-abbrev pub stmts_in : Place → Option AstFragment → StmtsThere
+abbrev pub stmts_in : LowerCtx → Option AstFragment → StmtsThere
 stmts_in q (Some (fragment.Stmts ms)) = Some (q, ms)
 stmts_in q _ = None
 
@@ -145,16 +142,16 @@ stmts_there None = None
 stmts_there (Some x) = stmts_in x.0 x.1
 
 -- the same as they are lent
-abbrev pub stmts_lent : Option (Place × Bor AstMacroStmts) → StmtsThere
+abbrev pub stmts_lent : Option (LowerCtx × Bor AstMacroStmts) → StmtsThere
 stmts_lent None = None
 stmts_lent (Some x) = Some (x.0, x.1.now)
 
 -- single statements
 
 -- whether a node is enabled; the condition that disables it is told
-abbrev pub enabled : Pointer → Result (Unit {0}) CfgId → Lowering Bool
-enabled at (Ok _) = pure true
-enabled at (Err by) = report (InactiveCode at by) >> pure false
+abbrev pub check_enabled : Pointer → Result (Unit {0}) CfgId → Lowering Bool
+check_enabled at (Ok _) = pure true
+check_enabled at (Err by) = report (InactiveCode at by) >> pure false
 
 abbrev pub expr_stmt : Option ExprId → Bool → Option Statement
 expr_stmt value semi = option_map (λ id. statement.Expr id semi) value

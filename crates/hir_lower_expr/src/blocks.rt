@@ -3,13 +3,13 @@
 ghost use Rattle.std.specs.Prelude.{◌≡◌, ◌-◌, false, length, slice_get, true};
 ghost use Rattle.hir_syntax.specs.declared.ast.BlockExpr.{out-BlockExpr};
 ghost use Rattle.hir_store.specs.Range.{HasExpr, HasLabelOption};
-ghost use Rattle.hir_env.specs.Whole.{answered_block, label_part};
-ghost use Rattle.hir_lower_form.specs.Forms as form;
-ghost use Rattle.hir_lower_form.specs.Lowering.{Lowers};
-ghost use Rattle.hir_lower_form.specs.Lower as spec;
-ghost use Rattle.hir_lower_form.specs.Nests.{KidsBlock, KidsBody};
-ghost use Rattle.hir_lower_form.specs.Methods.{HasContents, HasRole, LowersExpr, block_steps_at, contents_at, own_steps_at};
-ghost use Rattle.hir_lower_form.specs.declared.parts.BlockRole.TheVariants as role;
+ghost use Rattle.hir_env.specs.Whole.{resolved_block, label_part};
+ghost use Rattle.hir_lower_builder.specs.Forms as form;
+ghost use Rattle.hir_lower_builder.specs.Lowering.{Lowers};
+ghost use Rattle.hir_lower_builder.specs.Lower as spec;
+ghost use Rattle.hir_lower_builder.specs.Nests.{KidsBlock, KidsBody};
+ghost use Rattle.hir_lower_builder.specs.Methods.{HasContents, HasRole, LowersExpr, block_steps_at, contents_at, own_steps_at};
+ghost use Rattle.hir_lower_builder.specs.declared.parts.BlockRole.TheVariants as role;
 
 use crate::consts::const_form;
 use crate::coroutines::{coroutine_form, store_coroutine};
@@ -19,10 +19,10 @@ use crate::stored::store_block;
 use crate::tries::try_form;
 use crate::written::WrittenBlock;
 use hir_base::node::{AstPtr, InFile};
-use hir_lower_form::builder::BodyBuilder;
-use hir_lower_form::parts::{BlockRole, LowerInto, Lowerer};
-use hir_lower_form::storing::Storing;
-use hir_store::fault::StoreFault;
+use hir_lower_builder::builder::BodyBuilder;
+use hir_lower_builder::parts::{BlockRole, LowerAll, Lowerer};
+use hir_lower_builder::store_sink::StoreSink;
+use hir_store::error::StoreError;
 use hir_store::hir::{CoroutineKind, Statement};
 use hir_store::ids::{BlockId, ExprId, LabelId, LangItemId};
 use hir_syntax::{Seq, ast};
@@ -45,7 +45,7 @@ fn value_at_end(statements: &[Statement]) -> Option<ExprId>
 }
 
 /// Where no tail is left, a last expression statement without a semicolon becomes it.
-#[tactic(auto, using(hir_lower_form::proofs::BlockLemmas::settled_none))]
+#[tactic(auto, using(hir_lower_builder::proofs::BlockLemmas::settled_none))]
 #[inline(never)]
 fn settle(statements: &mut Seq<Statement>, tail: Option<ExprId>) -> Option<ExprId>
     ensures { spec.settled statements.old tail ≡ (statements.new, result) }
@@ -64,13 +64,13 @@ fn settle(statements: &mut Seq<Statement>, tail: Option<ExprId>) -> Option<ExprI
 
 /// The statements, and then the tail, behind which the definitions among them are closed.
 #[inline(always)]
-pub(crate) fn flat_contents<I: Storing, P: LowerInto<I>>(
+pub(crate) fn flat_contents<I: StoreSink, P: LowerAll<I>>(
     lowerer: &Lowerer<P>,
     state: &mut BodyBuilder<I>,
     node: &ast::BlockExpr,
-) -> Result<(Seq<Statement>, Option<ExprId>), StoreFault>
-    requires { KidsBlock (P.can lowerer.now.parts) (P.spot lowerer.now.parts).place (out-BlockExpr node.now) }
-    ensures { Lowers HasContents (contents_at (P.spot lowerer.now.parts) node.now) state.old result state.new }
+) -> Result<(Seq<Statement>, Option<ExprId>), StoreError>
+    requires { KidsBlock (P.can lowerer.now.parts) (P.rctx lowerer.now.parts).place (out-BlockExpr node.now) }
+    ensures { Lowers HasContents (contents_at (P.rctx lowerer.now.parts) node.now) state.old result state.new }
 {
     let mut run = Run {
         done: Seq::new(lowerer.alloc),
@@ -84,9 +84,9 @@ pub(crate) fn flat_contents<I: Storing, P: LowerInto<I>>(
 }
 
 /// A block that is read here, as one that is unsafe or isn't, inside the label of this number.
-#[tactic(auto, unfolding(hir_lower_form::specs::Forms::block_form))]
+#[tactic(auto, unfolding(hir_lower_builder::specs::Forms::block_form))]
 #[inline(never)]
-fn plain_node<I: Storing, P: LowerInto<I>, N: WrittenBlock>(
+fn plain_node<I: StoreSink, P: LowerAll<I>, N: WrittenBlock>(
     lowerer: &Lowerer<P>,
     state: &mut BodyBuilder<I>,
     at: InFile<AstPtr>,
@@ -94,11 +94,11 @@ fn plain_node<I: Storing, P: LowerInto<I>, N: WrittenBlock>(
     label: Option<LabelId>,
     number: Option<BlockId>,
     node: &N,
-) -> Result<ExprId, StoreFault>
-    requires parts { N.can_parts (P.can lowerer.now.parts) (P.spot lowerer.now.parts).place node.now }
+) -> Result<ExprId, StoreError>
+    requires parts { N.can_parts (P.can lowerer.now.parts) (P.rctx lowerer.now.parts).place node.now }
     requires label { HasLabelOption state.old.stored label }
-    ensures { let spot = P.spot lowerer.now.parts in
-        Lowers HasExpr (spec.as_role (role.Plain is_unsafe label) at number (N.stored spot node.now)) state.old result state.new }
+    ensures { let rctx = P.rctx lowerer.now.parts in
+        Lowers HasExpr (spec.as_role (role.Plain is_unsafe label) at number (N.stored rctx node.now)) state.old result state.new }
 {
     state.enter_block(number)?;
     let (mut statements, tail) = node.contents(lowerer, state)?;
@@ -107,9 +107,9 @@ fn plain_node<I: Storing, P: LowerInto<I>, N: WrittenBlock>(
 }
 
 /// The block of a `try` that is read here. Its tail goes through the item before the block is stored.
-#[tactic(auto, unfolding(hir_lower_form::specs::Made::try_block_form))]
+#[tactic(auto, unfolding(hir_lower_builder::specs::Made::try_block_form))]
 #[inline(never)]
-fn try_node<I: Storing, P: LowerInto<I>, N: WrittenBlock>(
+fn try_node<I: StoreSink, P: LowerAll<I>, N: WrittenBlock>(
     lowerer: &Lowerer<P>,
     state: &mut BodyBuilder<I>,
     at: InFile<AstPtr>,
@@ -117,10 +117,10 @@ fn try_node<I: Storing, P: LowerInto<I>, N: WrittenBlock>(
     typed: bool,
     number: Option<BlockId>,
     node: &N,
-) -> Result<ExprId, StoreFault>
-    requires { N.can_parts (P.can lowerer.now.parts) (P.spot lowerer.now.parts).place node.now }
-    ensures { let spot = P.spot lowerer.now.parts in
-        Lowers HasExpr (spec.as_role (role.Try item typed) at number (N.stored spot node.now)) state.old result state.new }
+) -> Result<ExprId, StoreError>
+    requires { N.can_parts (P.can lowerer.now.parts) (P.rctx lowerer.now.parts).place node.now }
+    ensures { let rctx = P.rctx lowerer.now.parts in
+        Lowers HasExpr (spec.as_role (role.Try item typed) at number (N.stored rctx node.now)) state.old result state.new }
 {
     let label = state.open_try(at, typed)?;
     state.enter_block(number)?;
@@ -140,9 +140,9 @@ fn try_node<I: Storing, P: LowerInto<I>, N: WrittenBlock>(
 }
 
 /// The block of these statements and this tail, which comes from no node, and the coroutine around it.
-#[tactic(auto, unfolding(hir_lower_form::specs::Forms::coroutine_around_form))]
+#[tactic(auto, unfolding(hir_lower_builder::specs::Forms::coroutine_around_form))]
 #[inline(never)]
-fn coroutine_around<I: Storing>(
+fn coroutine_around<I: StoreSink>(
     alloc: Global,
     state: &mut BodyBuilder<I>,
     at: InFile<AstPtr>,
@@ -151,7 +151,7 @@ fn coroutine_around<I: Storing>(
     number: Option<BlockId>,
     mut statements: Seq<Statement>,
     tail: Option<ExprId>,
-) -> Result<ExprId, StoreFault>
+) -> Result<ExprId, StoreError>
     requires { HasContents state.old.stored (statements, tail) }
     ensures { Lowers HasExpr (form.coroutine_around_form at kind moves number (statements, tail)) state.old result state.new }
 {
@@ -161,9 +161,9 @@ fn coroutine_around<I: Storing>(
 }
 
 /// The block of a coroutine that is read here, which comes from no node, and the coroutine around it.
-#[tactic(auto, unfolding(hir_lower_form::specs::Forms::coroutine_block_form))]
+#[tactic(auto, unfolding(hir_lower_builder::specs::Forms::coroutine_block_form))]
 #[inline(never)]
-fn coroutine_node<I: Storing, P: LowerInto<I>, N: WrittenBlock>(
+fn coroutine_node<I: StoreSink, P: LowerAll<I>, N: WrittenBlock>(
     lowerer: &Lowerer<P>,
     state: &mut BodyBuilder<I>,
     at: InFile<AstPtr>,
@@ -171,10 +171,10 @@ fn coroutine_node<I: Storing, P: LowerInto<I>, N: WrittenBlock>(
     moves: bool,
     number: Option<BlockId>,
     node: &N,
-) -> Result<ExprId, StoreFault>
-    requires { N.can_parts (P.can lowerer.now.parts) (P.spot lowerer.now.parts).place node.now }
-    ensures { let spot = P.spot lowerer.now.parts in
-        Lowers HasExpr (spec.as_role (role.Coroutine kind moves) at number (N.stored spot node.now)) state.old result state.new }
+) -> Result<ExprId, StoreError>
+    requires { N.can_parts (P.can lowerer.now.parts) (P.rctx lowerer.now.parts).place node.now }
+    ensures { let rctx = P.rctx lowerer.now.parts in
+        Lowers HasExpr (spec.as_role (role.Coroutine kind moves) at number (N.stored rctx node.now)) state.old result state.new }
 {
     state.enter_block(number)?;
     let (statements, tail) = node.contents(lowerer, state)?;
@@ -191,16 +191,16 @@ fn coroutine_node<I: Storing, P: LowerInto<I>, N: WrittenBlock>(
 }
 
 /// A block that is read here, of this role.
-pub fn block_node<I: Storing, P: LowerInto<I>>(
+pub fn block_node<I: StoreSink, P: LowerAll<I>>(
     lowerer: &Lowerer<P>,
     state: &mut BodyBuilder<I>,
     role: BlockRole,
     number: Option<BlockId>,
     node: &ast::BlockExpr,
-) -> Result<ExprId, StoreFault>
-    requires parts { KidsBlock (P.can lowerer.now.parts) (P.spot lowerer.now.parts).place (out-BlockExpr node.now) }
+) -> Result<ExprId, StoreError>
+    requires parts { KidsBlock (P.can lowerer.now.parts) (P.rctx lowerer.now.parts).place (out-BlockExpr node.now) }
     requires role { HasRole state.old.stored role }
-    ensures { Lowers HasExpr (block_steps_at (P.spot lowerer.now.parts) role number node.now) state.old result state.new }
+    ensures { Lowers HasExpr (block_steps_at (P.rctx lowerer.now.parts) role number node.now) state.old result state.new }
 {
     let at = lowerer.pointer(node.id, node.range);
     match role {
@@ -215,16 +215,16 @@ pub fn block_node<I: Storing, P: LowerInto<I>>(
 }
 
 /// A block with a label, if it has one, and with no modifier.
-#[tactic(auto, unfolding(hir_lower_form::specs::Forms::labelled))]
-fn labelled_block<I: Storing, P: LowerInto<I>, N: WrittenBlock>(
+#[tactic(auto, unfolding(hir_lower_builder::specs::Forms::labelled))]
+fn labelled_block<I: StoreSink, P: LowerAll<I>, N: WrittenBlock>(
     lowerer: &Lowerer<P>,
     state: &mut BodyBuilder<I>,
     label: &Option<ast::Label>,
     node: &N,
-) -> Result<ExprId, StoreFault>
-    requires { N.can (P.can lowerer.now.parts) (P.spot lowerer.now.parts).place node.now }
-    ensures { let block = N.read (P.spot lowerer.now.parts) node.now in
-        let label = label_part (P.spot lowerer.now.parts) label.now in
+) -> Result<ExprId, StoreError>
+    requires { N.can (P.can lowerer.now.parts) (P.rctx lowerer.now.parts).place node.now }
+    ensures { let block = N.read (P.rctx lowerer.now.parts) node.now in
+        let label = label_part (P.rctx lowerer.now.parts) label.now in
         Lowers HasExpr (spec.labelled label (λ id. spec.lower_inside (role.Plain false id) block)) state.old result state.new }
 {
     let is_unsafe = false;
@@ -241,13 +241,13 @@ fn labelled_block<I: Storing, P: LowerInto<I>, N: WrittenBlock>(
 }
 
 /// An unsafe block, of which no label counts.
-fn unsafe_block<I: Storing, P: LowerInto<I>, N: WrittenBlock>(
+fn unsafe_block<I: StoreSink, P: LowerAll<I>, N: WrittenBlock>(
     lowerer: &Lowerer<P>,
     state: &mut BodyBuilder<I>,
     node: &N,
-) -> Result<ExprId, StoreFault>
-    requires { N.can (P.can lowerer.now.parts) (P.spot lowerer.now.parts).place node.now }
-    ensures { let block = N.read (P.spot lowerer.now.parts) node.now in
+) -> Result<ExprId, StoreError>
+    requires { N.can (P.can lowerer.now.parts) (P.rctx lowerer.now.parts).place node.now }
+    ensures { let block = N.read (P.rctx lowerer.now.parts) node.now in
         Lowers HasExpr (spec.lower_inside (role.Plain true None) block) state.old result state.new }
 {
     let role = BlockRole::Plain {
@@ -258,14 +258,14 @@ fn unsafe_block<I: Storing, P: LowerInto<I>, N: WrittenBlock>(
 }
 
 /// A block with its modifier, beside which no label counts, or else with its label.
-fn headed_block<I: Storing, P: LowerInto<I>>(
+fn headed_block<I: StoreSink, P: LowerAll<I>>(
     lowerer: &Lowerer<P>,
     state: &mut BodyBuilder<I>,
     node: &ast::BlockExpr,
-) -> Result<ExprId, StoreFault>
-    requires { KidsBody (P.can lowerer.now.parts) (P.spot lowerer.now.parts).place node.now }
-    ensures { let spot = P.spot lowerer.now.parts in
-        Lowers HasExpr (own_steps_at spot (out-BlockExpr node.now).mod_ node.now) state.old result state.new }
+) -> Result<ExprId, StoreError>
+    requires { KidsBody (P.can lowerer.now.parts) (P.rctx lowerer.now.parts).place node.now }
+    ensures { let rctx = P.rctx lowerer.now.parts in
+        Lowers HasExpr (own_steps_at rctx (out-BlockExpr node.now).mod_ node.now) state.old result state.new }
 {
     match node.mod_ {
         None => labelled_block(lowerer, state, &node.label, node),
@@ -292,13 +292,13 @@ fn headed_block<I: Storing, P: LowerInto<I>>(
 }
 
 /// A block as an expression, where its own modifier and its own label count.
-pub fn block_form<I: Storing, P: LowerInto<I>>(
+pub fn block_form<I: StoreSink, P: LowerAll<I>>(
     lowerer: &Lowerer<P>,
     state: &mut BodyBuilder<I>,
     node: &ast::BlockExpr,
-) -> Result<ExprId, StoreFault>
-    requires { KidsBody (P.can lowerer.now.parts) (P.spot lowerer.now.parts).place node.now }
-    ensures { LowersExpr (answered_block (P.spot lowerer.now.parts) node.now) state.old result state.new }
+) -> Result<ExprId, StoreError>
+    requires { KidsBody (P.can lowerer.now.parts) (P.rctx lowerer.now.parts).place node.now }
+    ensures { LowersExpr (resolved_block (P.rctx lowerer.now.parts) node.now) state.old result state.new }
 {
     headed_block(lowerer, state, node)
 }

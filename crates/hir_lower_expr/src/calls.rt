@@ -1,36 +1,36 @@
 //! Calls, and what stands around an operand.
 
-ghost use Rattle.hir_env.specs.Answered as tree;
+ghost use Rattle.hir_env.specs.ResolvedTree as tree;
 ghost use Rattle.hir_env.specs.Answering.{name_or_missing};
-ghost use Rattle.hir_lower_form.specs.Methods.{LowersExpr};
+ghost use Rattle.hir_lower_builder.specs.Methods.{LowersExpr};
 
 use crate::part::{ArgsPart, ExprPart, GenericsPart};
 use hir_base::node::{AstPtr, InFile};
-use hir_lower_form::builder::BodyBuilder;
-use hir_lower_form::names::name_of;
-use hir_lower_form::parts::{LowerInto, Lowerer};
-use hir_lower_form::storing::Storing;
-use hir_store::fault::StoreFault;
+use hir_lower_builder::builder::BodyBuilder;
+use hir_lower_builder::names::name_of;
+use hir_lower_builder::parts::{LowerAll, Lowerer};
+use hir_lower_builder::store_sink::StoreSink;
+use hir_store::error::StoreError;
 use hir_store::hir::Expr;
 use hir_store::ids::ExprId;
 use hir_syntax::ast;
 
 /// A call: the callee, then its arguments first to last.
-#[tactic(auto, unfolding(hir_lower_form::specs::Forms::call_form))]
+#[tactic(auto, unfolding(hir_lower_builder::specs::Forms::call_form))]
 #[inline(never)]
-pub fn call_form<I: Storing, P: LowerInto<I>, E: ExprPart, A: ArgsPart>(
+pub fn call_form<I: StoreSink, P: LowerAll<I>, E: ExprPart, A: ArgsPart>(
     lowerer: &Lowerer<P>,
     state: &mut BodyBuilder<I>,
     at: InFile<AstPtr>,
     callee: &E,
     args: &A,
-) -> Result<ExprId, StoreFault>
+) -> Result<ExprId, StoreError>
     requires callee { E.can (P.can lowerer.now.parts) callee.now }
     requires args { A.can (P.can lowerer.now.parts) args.now }
     ensures { LowersExpr (tree.call_expr at
-        (E.read (P.spot lowerer.now.parts) callee.now)
+        (E.read (P.rctx lowerer.now.parts) callee.now)
         (A.is_there args.now)
-        (A.read (P.spot lowerer.now.parts) args.now)) state.old result state.new }
+        (A.read (P.rctx lowerer.now.parts) args.now)) state.old result state.new }
 {
     let callee = callee.lower(lowerer, state)?;
     let args = args.lower(lowerer, state)?;
@@ -38,9 +38,9 @@ pub fn call_form<I: Storing, P: LowerInto<I>, E: ExprPart, A: ArgsPart>(
 }
 
 /// The generic arguments behind the others.
-#[tactic(auto, unfolding(hir_lower_form::specs::Forms::method_call_form))]
+#[tactic(auto, unfolding(hir_lower_builder::specs::Forms::method_call_form))]
 #[inline(never)]
-pub fn method_call_form<I: Storing, P: LowerInto<I>, E: ExprPart, G: GenericsPart, A: ArgsPart>(
+pub fn method_call_form<I: StoreSink, P: LowerAll<I>, E: ExprPart, G: GenericsPart, A: ArgsPart>(
     lowerer: &Lowerer<P>,
     state: &mut BodyBuilder<I>,
     at: InFile<AstPtr>,
@@ -48,15 +48,15 @@ pub fn method_call_form<I: Storing, P: LowerInto<I>, E: ExprPart, G: GenericsPar
     name: &Option<ast::Name>,
     generics: &G,
     args: &A,
-) -> Result<ExprId, StoreFault>
+) -> Result<ExprId, StoreError>
     requires receiver { E.can (P.can lowerer.now.parts) receiver.now }
-    requires generics { G.can (P.can lowerer.now.parts) (P.spot lowerer.now.parts).place generics.now }
+    requires generics { G.can (P.can lowerer.now.parts) (P.rctx lowerer.now.parts).place generics.now }
     requires args { A.can (P.can lowerer.now.parts) args.now }
     ensures { LowersExpr (tree.method_call_expr at
-        (E.read (P.spot lowerer.now.parts) receiver.now)
+        (E.read (P.rctx lowerer.now.parts) receiver.now)
         (name_or_missing name.now)
-        (A.read (P.spot lowerer.now.parts) args.now)
-        (G.read (P.spot lowerer.now.parts) generics.now)) state.old result state.new }
+        (A.read (P.rctx lowerer.now.parts) args.now)
+        (G.read (P.rctx lowerer.now.parts) generics.now)) state.old result state.new }
 {
     let receiver = receiver.lower(lowerer, state)?;
     let args = args.lower(lowerer, state)?;
@@ -72,16 +72,16 @@ pub fn method_call_form<I: Storing, P: LowerInto<I>, E: ExprPart, G: GenericsPar
 }
 
 /// The parentheses lead to what is in them.
-#[tactic(auto, unfolding(hir_lower_form::specs::Forms::paren_form))]
+#[tactic(auto, unfolding(hir_lower_builder::specs::Forms::paren_form))]
 #[inline(never)]
-pub fn paren_form<I: Storing, P: LowerInto<I>, E: ExprPart>(
+pub fn paren_form<I: StoreSink, P: LowerAll<I>, E: ExprPart>(
     lowerer: &Lowerer<P>,
     state: &mut BodyBuilder<I>,
     at: InFile<AstPtr>,
     inner: &E,
-) -> Result<ExprId, StoreFault>
+) -> Result<ExprId, StoreError>
     requires { E.can (P.can lowerer.now.parts) inner.now }
-    ensures { LowersExpr (tree.paren_expr at (E.read (P.spot lowerer.now.parts) inner.now)) state.old result state.new }
+    ensures { LowersExpr (tree.paren_expr at (E.read (P.rctx lowerer.now.parts) inner.now)) state.old result state.new }
 {
     let id = inner.lower(lowerer, state)?;
     state.point(at, id)?;

@@ -3,37 +3,37 @@
 ghost use Rattle.std.specs.Prelude.{◌≡◌, false};
 ghost use Rattle.hir_syntax.specs.declared.types.Param.{out-Param};
 ghost use Rattle.hir_store.specs.Range.{HasExpr};
-ghost use Rattle.hir_env.specs.Answered as tree;
+ghost use Rattle.hir_env.specs.ResolvedTree as tree;
 ghost use Rattle.hir_env.specs.Answering.{closure_of, coroutine_kind};
 ghost use Rattle.hir_env.specs.Paths as of;
-ghost use Rattle.hir_env.specs.Answered.{OptionType, Params};
-ghost use Rattle.hir_env.specs.declared.place.Place.{Place as AtPlace};
-ghost use Rattle.hir_env.specs.Spot.{Spot};
-ghost use Rattle.hir_env.specs.Whole.{answer_part, answered_closure_param, closure_params_or_none_part, closure_params_part};
+ghost use Rattle.hir_env.specs.ResolvedTree.{OptionType, Params};
+ghost use Rattle.hir_env.specs.declared.ctx.LowerCtx.{LowerCtx as AtCtx};
+ghost use Rattle.hir_env.specs.ResolveCtx.{ResolveCtx};
+ghost use Rattle.hir_env.specs.Whole.{answer_part, resolved_closure_param, closure_params_or_none_part, closure_params_part};
 ghost use Rattle.hir_env.specs.Whole.{in_closure, param_level};
-ghost use Rattle.hir_lower_form.specs.Forms as spec;
-ghost use Rattle.hir_lower_form.specs.Lower.{lower_params, lower_part, present_type};
-ghost use Rattle.hir_lower_form.specs.Lowering.{Lowers};
-ghost use Rattle.hir_lower_form.specs.Methods.{HasClosureParams, LowersExpr, LowersExprOpt, LowersParam, LowersParams};
-ghost use Rattle.hir_lower_form.specs.Methods.{LowersTypeIfPresent};
-ghost use Rattle.hir_lower_form.specs.Nests.{Claims, IfPresent, KidsClosureParam, KidsClosureParams, KidsRet};
+ghost use Rattle.hir_lower_builder.specs.Forms as spec;
+ghost use Rattle.hir_lower_builder.specs.Lower.{lower_params, lower_part, present_type};
+ghost use Rattle.hir_lower_builder.specs.Lowering.{Lowers};
+ghost use Rattle.hir_lower_builder.specs.Methods.{HasClosureParams, LowersExpr, LowersExprOpt, LowersParam, LowersParams};
+ghost use Rattle.hir_lower_builder.specs.Methods.{LowersTypeIfPresent};
+ghost use Rattle.hir_lower_builder.specs.Nests.{Claims, IfPresent, KidsClosureParam, KidsClosureParams, KidsRet};
 
 use crate::coroutine_closures::coroutine_closure_form;
 use crate::part::{ExprPart, PatPart, TypePart};
 use hir_base::node::{AstPtr, InFile};
-use hir_env::place::Place;
-use hir_lower_form::builder::BodyBuilder;
-use hir_lower_form::closures::ClosureParams;
-use hir_lower_form::parts::{LowerInto, Lowerer, site};
-use hir_lower_form::storing::Storing;
+use hir_env::ctx::LowerCtx;
+use hir_lower_builder::builder::BodyBuilder;
+use hir_lower_builder::closures::ClosureParams;
+use hir_lower_builder::parts::{LowerAll, Lowerer, site};
+use hir_lower_builder::store_sink::StoreSink;
 use hir_store::diagnostics::{AwaitLocation, ExpressionStoreDiagnostics};
-use hir_store::fault::StoreFault;
+use hir_store::error::StoreError;
 use hir_store::hir::{CaptureBy, ClosureKind, CoroutineKind, Expr, Movability};
 use hir_store::ids::{ExprId, TypeRefId};
 use hir_syntax::{Seq, ast};
 
 /// Where the body of a closure is read that is written at this place.
-fn inside_closure(is_async: bool, place: Place) -> Place
+fn inside_closure(is_async: bool, place: LowerCtx) -> LowerCtx
     ensures { result ≡ of.inside_closure is_async place }
 {
     let await_location = if is_async {
@@ -41,7 +41,7 @@ fn inside_closure(is_async: bool, place: Place) -> Place
     } else {
         Some(AwaitLocation::NonAsyncClosure)
     };
-    Place {
+    LowerCtx {
         await_location,
         ..place
     }
@@ -72,19 +72,19 @@ pub(crate) fn capture_by(moves: bool) -> CaptureBy
 }
 
 /// A parameter that no condition disables: its pattern, its type.
-#[tactic(auto, unfolding(hir_lower_form::specs::Forms::param_form))]
-fn kept_param<I: Storing, P: LowerInto<I>, Q: PatPart, T: TypePart>(
+#[tactic(auto, unfolding(hir_lower_builder::specs::Forms::param_form))]
+fn kept_param<I: StoreSink, P: LowerAll<I>, Q: PatPart, T: TypePart>(
     lowerer: &Lowerer<P>,
     state: &mut BodyBuilder<I>,
     params: ClosureParams,
     pat: &Q,
     ty: &T,
-) -> Result<ClosureParams, StoreFault>
-    requires pat { Q.can (P.can lowerer.now.parts) (P.spot lowerer.now.parts).place pat.now }
-    requires ty { T.can (P.can lowerer.now.parts) (P.spot lowerer.now.parts).place ty.now }
+) -> Result<ClosureParams, StoreError>
+    requires pat { Q.can (P.can lowerer.now.parts) (P.rctx lowerer.now.parts).place pat.now }
+    requires ty { T.can (P.can lowerer.now.parts) (P.rctx lowerer.now.parts).place ty.now }
     requires params { HasClosureParams state.old.stored params }
-    ensures { let spot = P.spot lowerer.now.parts in
-        LowersParam params (tree.param (Q.read spot pat.now) (T.read spot ty.now)) state.old result state.new }
+    ensures { let rctx = P.rctx lowerer.now.parts in
+        LowersParam params (tree.param (Q.read rctx pat.now) (T.read rctx ty.now)) state.old result state.new }
 {
     let pat = pat.lower(lowerer, state)?;
     let ty = ty.lower_if_present(lowerer, state)?;
@@ -93,15 +93,15 @@ fn kept_param<I: Storing, P: LowerInto<I>, Q: PatPart, T: TypePart>(
 
 /// A parameter behind others, which stay alone where a condition disables it.
 #[inline(never)]
-fn param_form<I: Storing, P: LowerInto<I>>(
+fn param_form<I: StoreSink, P: LowerAll<I>>(
     lowerer: &Lowerer<P>,
     state: &mut BodyBuilder<I>,
     params: ClosureParams,
     node: &ast::Param,
-) -> Result<ClosureParams, StoreFault>
-    requires part { KidsClosureParam (P.can lowerer.now.parts) (P.spot lowerer.now.parts).place (out-Param node.now) }
+) -> Result<ClosureParams, StoreError>
+    requires part { KidsClosureParam (P.can lowerer.now.parts) (P.rctx lowerer.now.parts).place (out-Param node.now) }
     requires params { HasClosureParams state.old.stored params }
-    ensures { LowersParam params (param_level (P.spot lowerer.now.parts) node.now).own state.old result state.new }
+    ensures { LowersParam params (param_level (P.rctx lowerer.now.parts) node.now).own state.old result state.new }
 {
     let at = lowerer.pointer(node.id, node.range);
     match lowerer.parts.cfg(site(at)) {
@@ -113,29 +113,29 @@ fn param_form<I: Storing, P: LowerInto<I>>(
     }
 }
 
-fn param<I: Storing, P: LowerInto<I>>(
+fn param<I: StoreSink, P: LowerAll<I>>(
     lowerer: &Lowerer<P>,
     state: &mut BodyBuilder<I>,
     params: ClosureParams,
     node: &ast::Param,
-) -> Result<ClosureParams, StoreFault>
-    requires part { KidsClosureParam (P.can lowerer.now.parts) (P.spot lowerer.now.parts).place (out-Param node.now) }
+) -> Result<ClosureParams, StoreError>
+    requires part { KidsClosureParam (P.can lowerer.now.parts) (P.rctx lowerer.now.parts).place (out-Param node.now) }
     requires params { HasClosureParams state.old.stored params }
-    ensures { LowersParam params (answered_closure_param (P.spot lowerer.now.parts) node.now) state.old result state.new }
+    ensures { LowersParam params (resolved_closure_param (P.rctx lowerer.now.parts) node.now) state.old result state.new }
 {
     param_form(lowerer, state, params, node)
 }
 
 /// The parameters that no condition disables, behind others.
-fn params<I: Storing, P: LowerInto<I>>(
+fn params<I: StoreSink, P: LowerAll<I>>(
     lowerer: &Lowerer<P>,
     state: &mut BodyBuilder<I>,
     mut params: ClosureParams,
     mut left: &[ast::Param],
-) -> Result<ClosureParams, StoreFault>
-    requires parts { KidsClosureParams (P.can lowerer.now.parts) (P.spot lowerer.now.parts).place left.now }
+) -> Result<ClosureParams, StoreError>
+    requires parts { KidsClosureParams (P.can lowerer.now.parts) (P.rctx lowerer.now.parts).place left.now }
     requires params { HasClosureParams state.old.stored params }
-    ensures { LowersParams params (closure_params_part (P.spot lowerer.now.parts) left.entry.now) state.old result state.new }
+    ensures { LowersParams params (closure_params_part (P.rctx lowerer.now.parts) left.entry.now) state.old result state.new }
 {
     while let [one, rest @ ..] = left {
         params = param(lowerer, state, params, one)?;
@@ -146,17 +146,17 @@ fn params<I: Storing, P: LowerInto<I>>(
 
 /// The parameters of a closure, none where they are absent.
 pub trait ParamsPart {
-    ghost can: { Claims → AtPlace → Self → Type 0 };
+    ghost can: { Claims → AtCtx → Self → Type 0 };
 
-    ghost read: { Spot → Self → Params };
+    ghost read: { ResolveCtx → Self → Params };
 
-    fn lower<I: Storing, P: LowerInto<I>>(
+    fn lower<I: StoreSink, P: LowerAll<I>>(
         &self,
         lowerer: &Lowerer<P>,
         state: &mut BodyBuilder<I>,
-    ) -> Result<ClosureParams, StoreFault>
-        requires { can (P.can lowerer.now.parts) (P.spot lowerer.now.parts).place self.now }
-        ensures { LowersParams spec.no_closure_params (read (P.spot lowerer.now.parts) self.now) state.old result state.new };
+    ) -> Result<ClosureParams, StoreError>
+        requires { can (P.can lowerer.now.parts) (P.rctx lowerer.now.parts).place self.now }
+        ensures { LowersParams spec.no_closure_params (read (P.rctx lowerer.now.parts) self.now) state.old result state.new };
 }
 
 impl ParamsPart for Option<Seq<ast::Param>> {
@@ -164,11 +164,11 @@ impl ParamsPart for Option<Seq<ast::Param>> {
 
     ghost read = { closure_params_or_none_part };
 
-    fn lower<I: Storing, P: LowerInto<I>>(
+    fn lower<I: StoreSink, P: LowerAll<I>>(
         &self,
         lowerer: &Lowerer<P>,
         state: &mut BodyBuilder<I>,
-    ) -> Result<ClosureParams, StoreFault> {
+    ) -> Result<ClosureParams, StoreError> {
         let none = ClosureParams::new(lowerer.alloc);
         match self {
             None => Ok(none),
@@ -179,17 +179,17 @@ impl ParamsPart for Option<Seq<ast::Param>> {
 
 /// What a closure returns, none where no type is written.
 pub trait RetPart {
-    ghost can: { Claims → AtPlace → Self → Type 0 };
+    ghost can: { Claims → AtCtx → Self → Type 0 };
 
-    ghost read: { Spot → Self → OptionType };
+    ghost read: { ResolveCtx → Self → OptionType };
 
-    fn lower<I: Storing, P: LowerInto<I>>(
+    fn lower<I: StoreSink, P: LowerAll<I>>(
         &self,
         lowerer: &Lowerer<P>,
         state: &mut BodyBuilder<I>,
-    ) -> Result<Option<TypeRefId>, StoreFault>
-        requires { can (P.can lowerer.now.parts) (P.spot lowerer.now.parts).place self.now }
-        ensures { LowersTypeIfPresent (read (P.spot lowerer.now.parts) self.now) state.old result state.new };
+    ) -> Result<Option<TypeRefId>, StoreError>
+        requires { can (P.can lowerer.now.parts) (P.rctx lowerer.now.parts).place self.now }
+        ensures { LowersTypeIfPresent (read (P.rctx lowerer.now.parts) self.now) state.old result state.new };
 }
 
 impl RetPart for Option<ast::RetType> {
@@ -197,11 +197,11 @@ impl RetPart for Option<ast::RetType> {
 
     ghost read = { answer_part };
 
-    fn lower<I: Storing, P: LowerInto<I>>(
+    fn lower<I: StoreSink, P: LowerAll<I>>(
         &self,
         lowerer: &Lowerer<P>,
         state: &mut BodyBuilder<I>,
-    ) -> Result<Option<TypeRefId>, StoreFault> {
+    ) -> Result<Option<TypeRefId>, StoreError> {
         match self {
             None => Ok(None),
             Some(ty) => ty.lower_if_present(lowerer, state),
@@ -210,15 +210,15 @@ impl RetPart for Option<ast::RetType> {
 }
 
 /// The body, missing where it is absent or a condition disables it.
-pub(crate) fn body_opt<I: Storing, P: LowerInto<I>, E: ExprPart>(
+pub(crate) fn body_opt<I: StoreSink, P: LowerAll<I>, E: ExprPart>(
     lowerer: &Lowerer<P>,
     state: &mut BodyBuilder<I>,
     is_async: bool,
     body: &E,
-) -> Result<ExprId, StoreFault>
-    requires { let place = (P.spot lowerer.now.parts).place in
+) -> Result<ExprId, StoreError>
+    requires { let place = (P.rctx lowerer.now.parts).place in
         E.can_inside (P.can lowerer.now.parts) (of.inside_closure is_async place) body.now }
-    ensures { LowersExprOpt (E.read (in_closure is_async (P.spot lowerer.now.parts)) body.now) state.old result state.new }
+    ensures { LowersExprOpt (E.read (in_closure is_async (P.rctx lowerer.now.parts)) body.now) state.old result state.new }
 {
     body.lower_inside(
         lowerer,
@@ -229,8 +229,8 @@ pub(crate) fn body_opt<I: Storing, P: LowerInto<I>, E: ExprPart>(
 
 /// The parameters, what it returns, its body. No jump in it reaches what is open around it, and whether a `yield` stands in its body,
 /// and in none inside of that, decides what it is.
-#[tactic(auto, unfolding(hir_lower_form::specs::Forms::closure_form))]
-fn bordered_closure<I: Storing, P: LowerInto<I>, A: ParamsPart, R: RetPart, E: ExprPart>(
+#[tactic(auto, unfolding(hir_lower_builder::specs::Forms::closure_form))]
+fn bordered_closure<I: StoreSink, P: LowerAll<I>, A: ParamsPart, R: RetPart, E: ExprPart>(
     lowerer: &Lowerer<P>,
     state: &mut BodyBuilder<I>,
     at: InFile<AstPtr>,
@@ -239,15 +239,15 @@ fn bordered_closure<I: Storing, P: LowerInto<I>, A: ParamsPart, R: RetPart, E: E
     body: &E,
     moves: bool,
     is_static: bool,
-) -> Result<ExprId, StoreFault>
-    requires params { A.can (P.can lowerer.now.parts) (P.spot lowerer.now.parts).place params.now }
-    requires ret { R.can (P.can lowerer.now.parts) (P.spot lowerer.now.parts).place ret.now }
-    requires body { let place = (P.spot lowerer.now.parts).place in
+) -> Result<ExprId, StoreError>
+    requires params { A.can (P.can lowerer.now.parts) (P.rctx lowerer.now.parts).place params.now }
+    requires ret { R.can (P.can lowerer.now.parts) (P.rctx lowerer.now.parts).place ret.now }
+    requires body { let place = (P.rctx lowerer.now.parts).place in
         E.can_inside (P.can lowerer.now.parts) (of.inside_closure false place) body.now }
-    ensures { let spot = P.spot lowerer.now.parts in
-        let lowered = lower_params spec.no_closure_params (A.read spot params.now) in
-        let returned = present_type (R.read spot ret.now) in
-        let inner = lower_part (E.read (in_closure false spot) body.now) in
+    ensures { let rctx = P.rctx lowerer.now.parts in
+        let lowered = lower_params spec.no_closure_params (A.read rctx params.now) in
+        let returned = present_type (R.read rctx ret.now) in
+        let inner = lower_part (E.read (in_closure false rctx) body.now) in
         Lowers HasExpr (spec.closure_form at moves is_static lowered returned inner) state.old result state.new }
 {
     let outside = state.open_barrier()?;
@@ -269,9 +269,9 @@ fn bordered_closure<I: Storing, P: LowerInto<I>, A: ParamsPart, R: RetPart, E: E
 }
 
 /// A closure without `async` and `gen`, which owns the bindings that are made in it.
-#[tactic(auto, unfolding(hir_lower_form::specs::Lowering::owning))]
+#[tactic(auto, unfolding(hir_lower_builder::specs::Lowering::owning))]
 #[inline(never)]
-fn plain_closure<I: Storing, P: LowerInto<I>, A: ParamsPart, R: RetPart, E: ExprPart>(
+fn plain_closure<I: StoreSink, P: LowerAll<I>, A: ParamsPart, R: RetPart, E: ExprPart>(
     lowerer: &Lowerer<P>,
     state: &mut BodyBuilder<I>,
     at: InFile<AstPtr>,
@@ -280,18 +280,18 @@ fn plain_closure<I: Storing, P: LowerInto<I>, A: ParamsPart, R: RetPart, E: Expr
     body: &E,
     moves: bool,
     is_static: bool,
-) -> Result<ExprId, StoreFault>
-    requires params { A.can (P.can lowerer.now.parts) (P.spot lowerer.now.parts).place params.now }
-    requires ret { R.can (P.can lowerer.now.parts) (P.spot lowerer.now.parts).place ret.now }
-    requires body { let place = (P.spot lowerer.now.parts).place in
+) -> Result<ExprId, StoreError>
+    requires params { A.can (P.can lowerer.now.parts) (P.rctx lowerer.now.parts).place params.now }
+    requires ret { R.can (P.can lowerer.now.parts) (P.rctx lowerer.now.parts).place ret.now }
+    requires body { let place = (P.rctx lowerer.now.parts).place in
         E.can_inside (P.can lowerer.now.parts) (of.inside_closure false place) body.now }
-    ensures { let spot = P.spot lowerer.now.parts in
+    ensures { let rctx = P.rctx lowerer.now.parts in
         LowersExpr (tree.closure_expr at
         moves
         is_static
-        (A.read spot params.now)
-        (R.read spot ret.now)
-        (E.read (in_closure false spot) body.now)) state.old result state.new }
+        (A.read rctx params.now)
+        (R.read rctx ret.now)
+        (E.read (in_closure false rctx) body.now)) state.old result state.new }
 {
     let start = state.bindings_end();
     let id = bordered_closure(lowerer, state, at, params, ret, body, moves, is_static)?;
@@ -300,7 +300,7 @@ fn plain_closure<I: Storing, P: LowerInto<I>, A: ParamsPart, R: RetPart, E: Expr
 }
 
 /// A closure with `async`, `gen` or both, whose body is a coroutine, or with neither.
-pub fn closure_form<I: Storing, P: LowerInto<I>, A: ParamsPart, R: RetPart, E: ExprPart>(
+pub fn closure_form<I: StoreSink, P: LowerAll<I>, A: ParamsPart, R: RetPart, E: ExprPart>(
     lowerer: &Lowerer<P>,
     state: &mut BodyBuilder<I>,
     at: InFile<AstPtr>,
@@ -311,19 +311,19 @@ pub fn closure_form<I: Storing, P: LowerInto<I>, A: ParamsPart, R: RetPart, E: E
     is_gen: bool,
     moves: bool,
     is_static: bool,
-) -> Result<ExprId, StoreFault>
-    requires params { A.can (P.can lowerer.now.parts) (P.spot lowerer.now.parts).place params.now }
-    requires ret { R.can (P.can lowerer.now.parts) (P.spot lowerer.now.parts).place ret.now }
-    requires body { let place = (P.spot lowerer.now.parts).place in
+) -> Result<ExprId, StoreError>
+    requires params { A.can (P.can lowerer.now.parts) (P.rctx lowerer.now.parts).place params.now }
+    requires ret { R.can (P.can lowerer.now.parts) (P.rctx lowerer.now.parts).place ret.now }
+    requires body { let place = (P.rctx lowerer.now.parts).place in
         E.can_inside (P.can lowerer.now.parts) (of.inside_closure is_async place) body.now }
-    ensures { let spot = P.spot lowerer.now.parts in
+    ensures { let rctx = P.rctx lowerer.now.parts in
         LowersExpr (closure_of (coroutine_kind is_async is_gen)
         at
         moves
         is_static
-        (A.read spot params.now)
-        (R.read spot ret.now)
-        (E.read (in_closure is_async spot) body.now)) state.old result state.new }
+        (A.read rctx params.now)
+        (R.read rctx ret.now)
+        (E.read (in_closure is_async rctx) body.now)) state.old result state.new }
 {
     match (is_async, is_gen) {
         (false, false) => plain_closure(lowerer, state, at, params, ret, body, moves, is_static),

@@ -2,12 +2,12 @@
 
 ghost use Rattle.std.specs.Prelude.{◌≡◌, ◌&&◌, ◌||◌};
 ghost use Rattle.hir_env.specs.Conditions as of;
-ghost use Rattle.hir_env.specs.Whole.{answered, expr_part, kept_expr};
+ghost use Rattle.hir_env.specs.Whole.{resolved_expr, expr_part, kept_expr};
 ghost use Rattle.hir_lower_expr.specs.Conditions.{is_and, let_there};
 ghost use Rattle.hir_lower_pat.specs.TargetLists.{expr_behind};
 
 use hir_base::op::{BinaryOp, LogicOp};
-use hir_lower_form::parts::{LowerParts, Lowerer, site};
+use hir_lower_builder::parts::{LowerParts, Lowerer, site};
 use hir_lower_pat::callees::expr_behind;
 use hir_syntax::{Boxed, ast};
 
@@ -21,7 +21,7 @@ fn is_and(op: &Option<BinaryOp>) -> bool
 /// Whether a call stands for an expression that holds one.
 #[cycle(holds_let)]
 fn called_with_let<P: LowerParts>(lowerer: &Lowerer<P>, call: &ast::MacroCall) -> bool
-    ensures { let spot = P.spot lowerer.now.parts in result ≡ let_there spot (expr_behind spot call.now) }
+    ensures { let rctx = P.rctx lowerer.now.parts in result ≡ let_there rctx (expr_behind rctx call.now) }
 {
     match expr_behind(lowerer, call) {
         None => false,
@@ -37,8 +37,8 @@ fn is_and_with_let<P: LowerParts>(
     lhs: &Option<Boxed<ast::Expr>>,
     rhs: &Option<Boxed<ast::Expr>>,
 ) -> bool
-    ensures { let spot = P.spot lowerer.now.parts in
-        result ≡ (is_and op.now && (of.holds_let (expr_part spot lhs.now) || of.holds_let (expr_part spot rhs.now))) }
+    ensures { let rctx = P.rctx lowerer.now.parts in
+        result ≡ (is_and op.now && (of.holds_let (expr_part rctx lhs.now) || of.holds_let (expr_part rctx rhs.now))) }
 {
     is_and(op) && (holds_let(lowerer, lhs) || holds_let(lowerer, rhs))
 }
@@ -46,7 +46,7 @@ fn is_and_with_let<P: LowerParts>(
 /// Whether an expression is a `let`, or `&&` of which an operand holds one, whatever disables it. Parentheses and calls are passed.
 #[cycle(holds_let)]
 fn is_kept_with_let<P: LowerParts>(lowerer: &Lowerer<P>, node: &ast::Expr) -> bool
-    ensures { result ≡ of.is_with_let (kept_expr (P.spot lowerer.now.parts) node.now) }
+    ensures { result ≡ of.is_with_let (kept_expr (P.rctx lowerer.now.parts) node.now) }
 {
     match &node.kind {
         ast::ExprKind::LetExpr { .. } => true,
@@ -63,7 +63,7 @@ fn is_kept_with_let<P: LowerParts>(lowerer: &Lowerer<P>, node: &ast::Expr) -> bo
 /// The same, where no condition disables it.
 #[cycle(holds_let)]
 fn is_with_let<P: LowerParts>(lowerer: &Lowerer<P>, node: &ast::Expr) -> bool
-    ensures { result ≡ of.is_with_let (answered (P.spot lowerer.now.parts) node.now) }
+    ensures { result ≡ of.is_with_let (resolved_expr (P.rctx lowerer.now.parts) node.now) }
 {
     let at = lowerer.pointer(node.id, node.range);
     match lowerer.parts.cfg(site(at)) {
@@ -78,7 +78,7 @@ pub(crate) fn holds_let<P: LowerParts>(
     lowerer: &Lowerer<P>,
     part: &Option<Boxed<ast::Expr>>,
 ) -> bool
-    ensures { result ≡ of.holds_let (expr_part (P.spot lowerer.now.parts) part.now) }
+    ensures { result ≡ of.holds_let (expr_part (P.rctx lowerer.now.parts) part.now) }
 {
     match part {
         None => false,

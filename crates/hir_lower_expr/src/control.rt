@@ -1,39 +1,39 @@
 //! Branches and loops.
 
 ghost use Rattle.hir_syntax.specs.declared.ast.ElseBranch.{out-ElseBranch};
-ghost use Rattle.hir_env.specs.Answered as tree;
-ghost use Rattle.hir_env.specs.Answered.{OptionExpr};
+ghost use Rattle.hir_env.specs.ResolvedTree as tree;
+ghost use Rattle.hir_env.specs.ResolvedTree.{OptionExpr};
 ghost use Rattle.hir_env.specs.Answering.{label_written};
 ghost use Rattle.hir_env.specs.Conditions.{holds_let};
-ghost use Rattle.hir_env.specs.declared.place.Place.{Place as AtPlace};
-ghost use Rattle.hir_env.specs.Spot.{Spot};
-ghost use Rattle.hir_env.specs.Whole.{answered_else, else_level, else_part, label_part};
+ghost use Rattle.hir_env.specs.declared.ctx.LowerCtx.{LowerCtx as AtCtx};
+ghost use Rattle.hir_env.specs.ResolveCtx.{ResolveCtx};
+ghost use Rattle.hir_env.specs.Whole.{resolved_else, else_level, else_part, label_part};
 ghost use Rattle.hir_store.specs.Range.{HasExpr};
-ghost use Rattle.hir_lower_form.specs.Lower.{lower_block_part, lower_part};
-ghost use Rattle.hir_lower_form.specs.Lower as spec;
-ghost use Rattle.hir_lower_form.specs.Lowering.{Lowers};
-ghost use Rattle.hir_lower_form.specs.Made as made;
-ghost use Rattle.hir_lower_form.specs.Nests.{Claims, IfPresent, KidsElse};
-ghost use Rattle.hir_lower_form.specs.Methods.{LowersExpr, LowersIfPresent};
+ghost use Rattle.hir_lower_builder.specs.Lower.{lower_block_part, lower_part};
+ghost use Rattle.hir_lower_builder.specs.Lower as spec;
+ghost use Rattle.hir_lower_builder.specs.Lowering.{Lowers};
+ghost use Rattle.hir_lower_builder.specs.Made as made;
+ghost use Rattle.hir_lower_builder.specs.Nests.{Claims, IfPresent, KidsElse};
+ghost use Rattle.hir_lower_builder.specs.Methods.{LowersExpr, LowersIfPresent};
 
 use crate::part::{BlockPart, ExprPart};
 use crate::stored::{store_break, store_loop};
 use hir_base::node::{AstPtr, InFile};
-use hir_lower_form::builder::BodyBuilder;
-use hir_lower_form::parts::{LowerInto, Lowerer};
-use hir_lower_form::storing::Storing;
-use hir_store::fault::StoreFault;
+use hir_lower_builder::builder::BodyBuilder;
+use hir_lower_builder::parts::{LowerAll, Lowerer};
+use hir_lower_builder::store_sink::StoreSink;
+use hir_store::error::StoreError;
 use hir_store::hir::{Expr, LoopSource};
 use hir_store::ids::ExprId;
 use hir_syntax::ast;
 
-fn else_node<I: Storing, P: LowerInto<I>>(
+fn else_node<I: StoreSink, P: LowerAll<I>>(
     lowerer: &Lowerer<P>,
     state: &mut BodyBuilder<I>,
     part: &ast::ElseBranch,
-) -> Result<ExprId, StoreFault>
-    requires { KidsElse (P.can lowerer.now.parts) (P.spot lowerer.now.parts).place (out-ElseBranch part.now) }
-    ensures { LowersExpr (else_level (P.spot lowerer.now.parts) part.now) state.old result state.new }
+) -> Result<ExprId, StoreError>
+    requires { KidsElse (P.can lowerer.now.parts) (P.rctx lowerer.now.parts).place (out-ElseBranch part.now) }
+    ensures { LowersExpr (else_level (P.rctx lowerer.now.parts) part.now) state.old result state.new }
 {
     match part {
         ast::ElseBranch::ElseBlock(block) => lowerer.collect_block(state, block.get()),
@@ -41,30 +41,30 @@ fn else_node<I: Storing, P: LowerInto<I>>(
     }
 }
 
-fn else_branch<I: Storing, P: LowerInto<I>>(
+fn else_branch<I: StoreSink, P: LowerAll<I>>(
     lowerer: &Lowerer<P>,
     state: &mut BodyBuilder<I>,
     part: &ast::ElseBranch,
-) -> Result<ExprId, StoreFault>
-    requires { KidsElse (P.can lowerer.now.parts) (P.spot lowerer.now.parts).place (out-ElseBranch part.now) }
-    ensures { LowersExpr (answered_else (P.spot lowerer.now.parts) part.now) state.old result state.new }
+) -> Result<ExprId, StoreError>
+    requires { KidsElse (P.can lowerer.now.parts) (P.rctx lowerer.now.parts).place (out-ElseBranch part.now) }
+    ensures { LowersExpr (resolved_else (P.rctx lowerer.now.parts) part.now) state.old result state.new }
 {
     else_node(lowerer, state, part)
 }
 
 /// The other side of a branch, none where it is absent.
 pub trait ElsePart {
-    ghost can: { Claims → AtPlace → Self → Type 0 };
+    ghost can: { Claims → AtCtx → Self → Type 0 };
 
-    ghost read: { Spot → Self → OptionExpr };
+    ghost read: { ResolveCtx → Self → OptionExpr };
 
-    fn lower<I: Storing, P: LowerInto<I>>(
+    fn lower<I: StoreSink, P: LowerAll<I>>(
         &self,
         lowerer: &Lowerer<P>,
         state: &mut BodyBuilder<I>,
-    ) -> Result<Option<ExprId>, StoreFault>
-        requires { can (P.can lowerer.now.parts) (P.spot lowerer.now.parts).place self.now }
-        ensures { LowersIfPresent (read (P.spot lowerer.now.parts) self.now) state.old result state.new };
+    ) -> Result<Option<ExprId>, StoreError>
+        requires { can (P.can lowerer.now.parts) (P.rctx lowerer.now.parts).place self.now }
+        ensures { LowersIfPresent (read (P.rctx lowerer.now.parts) self.now) state.old result state.new };
 }
 
 impl ElsePart for Option<ast::ElseBranch> {
@@ -72,11 +72,11 @@ impl ElsePart for Option<ast::ElseBranch> {
 
     ghost read = { else_part };
 
-    fn lower<I: Storing, P: LowerInto<I>>(
+    fn lower<I: StoreSink, P: LowerAll<I>>(
         &self,
         lowerer: &Lowerer<P>,
         state: &mut BodyBuilder<I>,
-    ) -> Result<Option<ExprId>, StoreFault> {
+    ) -> Result<Option<ExprId>, StoreError> {
         match self {
             None => Ok(None),
             Some(part) => Ok(Some(else_branch(lowerer, state, part)?)),
@@ -85,23 +85,23 @@ impl ElsePart for Option<ast::ElseBranch> {
 }
 
 /// The branches are lowered before the condition.
-#[tactic(auto, unfolding(hir_lower_form::specs::Forms::if_form))]
+#[tactic(auto, unfolding(hir_lower_builder::specs::Forms::if_form))]
 #[inline(never)]
-pub fn if_form<I: Storing, P: LowerInto<I>, E: ExprPart, B: BlockPart, L: ElsePart>(
+pub fn if_form<I: StoreSink, P: LowerAll<I>, E: ExprPart, B: BlockPart, L: ElsePart>(
     lowerer: &Lowerer<P>,
     state: &mut BodyBuilder<I>,
     at: InFile<AstPtr>,
     condition: &E,
     then: &B,
     else_: &L,
-) -> Result<ExprId, StoreFault>
+) -> Result<ExprId, StoreError>
     requires condition { E.can (P.can lowerer.now.parts) condition.now }
-    requires then { B.can (P.can lowerer.now.parts) (P.spot lowerer.now.parts).place then.now }
-    requires else_ { L.can (P.can lowerer.now.parts) (P.spot lowerer.now.parts).place else_.now }
+    requires then { B.can (P.can lowerer.now.parts) (P.rctx lowerer.now.parts).place then.now }
+    requires else_ { L.can (P.can lowerer.now.parts) (P.rctx lowerer.now.parts).place else_.now }
     ensures { LowersExpr (tree.if_expr at
-        (E.read (P.spot lowerer.now.parts) condition.now)
-        (B.read (P.spot lowerer.now.parts) then.now)
-        (L.read (P.spot lowerer.now.parts) else_.now)) state.old result state.new }
+        (E.read (P.rctx lowerer.now.parts) condition.now)
+        (B.read (P.rctx lowerer.now.parts) then.now)
+        (L.read (P.rctx lowerer.now.parts) else_.now)) state.old result state.new }
 {
     let then_branch = then.lower(lowerer, state)?;
     let else_branch = else_.lower(lowerer, state)?;
@@ -115,21 +115,21 @@ pub fn if_form<I: Storing, P: LowerInto<I>, E: ExprPart, B: BlockPart, L: ElsePa
 }
 
 /// A `loop`, whose label lies around its body.
-#[tactic(auto, unfolding(hir_lower_form::specs::Forms::loop_form))]
+#[tactic(auto, unfolding(hir_lower_builder::specs::Forms::loop_form))]
 #[inline(never)]
-pub fn loop_form<I: Storing, P: LowerInto<I>, B: BlockPart>(
+pub fn loop_form<I: StoreSink, P: LowerAll<I>, B: BlockPart>(
     lowerer: &Lowerer<P>,
     state: &mut BodyBuilder<I>,
     at: InFile<AstPtr>,
     label: &Option<ast::Label>,
     body: &B,
-) -> Result<ExprId, StoreFault>
-    requires { B.can (P.can lowerer.now.parts) (P.spot lowerer.now.parts).place body.now }
-    ensures { let spot = P.spot lowerer.now.parts in
+) -> Result<ExprId, StoreError>
+    requires { B.can (P.can lowerer.now.parts) (P.rctx lowerer.now.parts).place body.now }
+    ensures { let rctx = P.rctx lowerer.now.parts in
         LowersExpr (tree.loop_expr at
-        (label_part spot label.now)
-        (label_written spot.answers spot.place label.now)
-        (B.read spot body.now)) state.old result state.new }
+        (label_part rctx label.now)
+        (label_written rctx.answers rctx.place label.now)
+        (B.read rctx body.now)) state.old result state.new }
 {
     let source = LoopSource::Loop;
     match label {
@@ -155,16 +155,16 @@ pub fn loop_form<I: Storing, P: LowerInto<I>, B: BlockPart>(
 /// ```text
 /// { let made = c; made }
 /// ```
-#[tactic(auto, unfolding(hir_lower_form::specs::Made::held_form))]
+#[tactic(auto, unfolding(hir_lower_builder::specs::Made::held_form))]
 #[inline(never)]
-fn condition_form<I: Storing, P: LowerInto<I>, E: ExprPart>(
+fn condition_form<I: StoreSink, P: LowerAll<I>, E: ExprPart>(
     lowerer: &Lowerer<P>,
     state: &mut BodyBuilder<I>,
     at: InFile<AstPtr>,
     condition: &E,
-) -> Result<ExprId, StoreFault>
+) -> Result<ExprId, StoreError>
     requires { E.can (P.can lowerer.now.parts) condition.now }
-    ensures { let c = E.read (P.spot lowerer.now.parts) condition.now in
+    ensures { let c = E.read (P.rctx lowerer.now.parts) condition.now in
         Lowers HasExpr (made.condition_form (holds_let c) at (lower_part c)) state.old result state.new }
 {
     let tested = condition.lower(lowerer, state)?;
@@ -176,31 +176,31 @@ fn condition_form<I: Storing, P: LowerInto<I>, E: ExprPart>(
 }
 
 /// The turn of a `while`: its body where the condition holds, else a break. The body is lowered before the condition.
-#[tactic(auto, unfolding(hir_lower_form::specs::Forms::turn_form))]
+#[tactic(auto, unfolding(hir_lower_builder::specs::Forms::iteration_form))]
 #[inline(never)]
-fn turn_form<I: Storing, P: LowerInto<I>, E: ExprPart, B: BlockPart>(
+fn iteration_form<I: StoreSink, P: LowerAll<I>, E: ExprPart, B: BlockPart>(
     lowerer: &Lowerer<P>,
     state: &mut BodyBuilder<I>,
     at: InFile<AstPtr>,
     condition: &E,
     body: &B,
-) -> Result<ExprId, StoreFault>
+) -> Result<ExprId, StoreError>
     requires condition { E.can (P.can lowerer.now.parts) condition.now }
-    requires body { B.can (P.can lowerer.now.parts) (P.spot lowerer.now.parts).place body.now }
-    ensures { let c = E.read (P.spot lowerer.now.parts) condition.now in
-        Lowers HasExpr (spec.turn_form at
+    requires body { B.can (P.can lowerer.now.parts) (P.rctx lowerer.now.parts).place body.now }
+    ensures { let c = E.read (P.rctx lowerer.now.parts) condition.now in
+        Lowers HasExpr (spec.iteration_form at
         (made.condition_form (holds_let c) at (lower_part c))
-        (lower_block_part (B.read (P.spot lowerer.now.parts) body.now))) state.old result state.new }
+        (lower_block_part (B.read (P.rctx lowerer.now.parts) body.now))) state.old result state.new }
 {
     let body = body.lower(lowerer, state)?;
     let tested = condition_form(lowerer, state, at, condition)?;
     let out = store_break(state, at)?;
-    let turn = Expr::If {
+    let iteration = Expr::If {
         condition: tested,
         then_branch: body,
         else_branch: Some(out),
     };
-    state.alloc_expr(turn, Some(at))
+    state.alloc_expr(iteration, Some(at))
 }
 
 /// A loop over such a turn. The condition lies under the label as the body does.
@@ -211,35 +211,35 @@ fn turn_form<I: Storing, P: LowerInto<I>, E: ExprPart, B: BlockPart>(
 /// 'a: loop { if { let made = c; made } b else { break } }     // where c holds no `let`
 /// 'a: loop { if c b else { break } }                          // where it does
 /// ```
-#[tactic(auto, unfolding(hir_lower_form::specs::Forms::loop_form))]
+#[tactic(auto, unfolding(hir_lower_builder::specs::Forms::loop_form))]
 #[inline(never)]
-pub fn while_form<I: Storing, P: LowerInto<I>, E: ExprPart, B: BlockPart>(
+pub fn while_form<I: StoreSink, P: LowerAll<I>, E: ExprPart, B: BlockPart>(
     lowerer: &Lowerer<P>,
     state: &mut BodyBuilder<I>,
     at: InFile<AstPtr>,
     label: &Option<ast::Label>,
     condition: &E,
     body: &B,
-) -> Result<ExprId, StoreFault>
+) -> Result<ExprId, StoreError>
     requires condition { E.can (P.can lowerer.now.parts) condition.now }
-    requires body { B.can (P.can lowerer.now.parts) (P.spot lowerer.now.parts).place body.now }
-    ensures { let spot = P.spot lowerer.now.parts in
+    requires body { B.can (P.can lowerer.now.parts) (P.rctx lowerer.now.parts).place body.now }
+    ensures { let rctx = P.rctx lowerer.now.parts in
         LowersExpr (tree.while_expr at
-        (label_part spot label.now)
-        (label_written spot.answers spot.place label.now)
-        (E.read spot condition.now)
-        (B.read spot body.now)) state.old result state.new }
+        (label_part rctx label.now)
+        (label_written rctx.answers rctx.place label.now)
+        (E.read rctx condition.now)
+        (B.read rctx body.now)) state.old result state.new }
 {
     let source = LoopSource::While;
     match label {
         None => {
-            let body = turn_form(lowerer, state, at, condition, body)?;
+            let body = iteration_form(lowerer, state, at, condition, body)?;
             let label = None;
             store_loop(state, at, body, label, source)
         }
         Some(label) => {
             let label = lowerer.open_label(state, label)?;
-            let body = turn_form(lowerer, state, at, condition, body)?;
+            let body = iteration_form(lowerer, state, at, condition, body)?;
             state.close();
             let label = Some(label);
             store_loop(state, at, body, label, source)

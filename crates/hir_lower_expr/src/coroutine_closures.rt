@@ -2,32 +2,32 @@
 
 ghost use Rattle.std.specs.Prelude.{[], ◌≡◌, Some};
 ghost use Rattle.hir_store.specs.Range.{HasExpr, HasParts, HasPats};
-ghost use Rattle.hir_env.specs.Answered as tree;
+ghost use Rattle.hir_env.specs.ResolvedTree as tree;
 ghost use Rattle.hir_env.specs.Paths as of;
 ghost use Rattle.hir_env.specs.Whole.{in_closure};
-ghost use Rattle.hir_lower_form.specs.Forms.{no_closure_params};
-ghost use Rattle.hir_lower_form.specs.Lower.{lower_params, lower_part, present_type};
-ghost use Rattle.hir_lower_form.specs.Lowering.{Lowers, owning};
-ghost use Rattle.hir_lower_form.specs.Lowering as step;
-ghost use Rattle.hir_lower_form.specs.Methods.{HasWithin, LowersExpr};
-ghost use Rattle.hir_lower_form.specs.Preludes as spec;
+ghost use Rattle.hir_lower_builder.specs.Forms.{no_closure_params};
+ghost use Rattle.hir_lower_builder.specs.Lower.{lower_params, lower_part, present_type};
+ghost use Rattle.hir_lower_builder.specs.Lowering.{Lowers, owning};
+ghost use Rattle.hir_lower_builder.specs.Lowering as step;
+ghost use Rattle.hir_lower_builder.specs.Methods.{HasWithin, LowersExpr};
+ghost use Rattle.hir_lower_builder.specs.Preludes as spec;
 
 use crate::closures::{ParamsPart, RetPart, body_opt, capture_by};
 use crate::part::ExprPart;
 use hir_base::node::{AstPtr, InFile};
-use hir_lower_form::builder::BodyBuilder;
-use hir_lower_form::closures::ClosureParams;
-use hir_lower_form::parts::{LowerInto, Lowerer};
-use hir_lower_form::preludes::{Prelude, Within, let_params, lower_handed};
-use hir_lower_form::storing::Storing;
-use hir_store::fault::StoreFault;
+use hir_lower_builder::builder::BodyBuilder;
+use hir_lower_builder::closures::ClosureParams;
+use hir_lower_builder::parts::{LowerAll, Lowerer};
+use hir_lower_builder::preludes::{Prelude, Within, let_params, lower_handed};
+use hir_lower_builder::store_sink::StoreSink;
+use hir_store::error::StoreError;
 use hir_store::hir::{ClosureKind, CoroutineKind, CoroutineSource, Expr};
 use hir_store::ids::{ExprId, PatId};
 use hir_syntax::Seq;
 
 /// The coroutine of its body, in front of which its parameters are handed in.
-#[tactic(auto, unfolding(hir_lower_form::specs::Preludes::within_form))]
-fn within<I: Storing, P: LowerInto<I>, A: ParamsPart, R: RetPart, E: ExprPart>(
+#[tactic(auto, unfolding(hir_lower_builder::specs::Preludes::within_form))]
+fn within<I: StoreSink, P: LowerAll<I>, A: ParamsPart, R: RetPart, E: ExprPart>(
     lowerer: &Lowerer<P>,
     state: &mut BodyBuilder<I>,
     params: &A,
@@ -35,15 +35,15 @@ fn within<I: Storing, P: LowerInto<I>, A: ParamsPart, R: RetPart, E: ExprPart>(
     body: &E,
     is_async: bool,
     kind: CoroutineKind,
-) -> Result<Within, StoreFault>
-    requires params { A.can (P.can lowerer.now.parts) (P.spot lowerer.now.parts).place params.now }
-    requires ret { R.can (P.can lowerer.now.parts) (P.spot lowerer.now.parts).place ret.now }
-    requires body { let place = (P.spot lowerer.now.parts).place in
+) -> Result<Within, StoreError>
+    requires params { A.can (P.can lowerer.now.parts) (P.rctx lowerer.now.parts).place params.now }
+    requires ret { R.can (P.can lowerer.now.parts) (P.rctx lowerer.now.parts).place ret.now }
+    requires body { let place = (P.rctx lowerer.now.parts).place in
         E.can_inside (P.can lowerer.now.parts) (of.inside_closure is_async place) body.now }
-    ensures { let spot = P.spot lowerer.now.parts in
-        let lowered = lower_params no_closure_params (A.read spot params.now) in
-        let returned = present_type (R.read spot ret.now) in
-        let inner = lower_part (E.read (in_closure is_async spot) body.now) in
+    ensures { let rctx = P.rctx lowerer.now.parts in
+        let lowered = lower_params no_closure_params (A.read rctx params.now) in
+        let returned = present_type (R.read rctx ret.now) in
+        let inner = lower_part (E.read (in_closure is_async rctx) body.now) in
         Lowers HasWithin (spec.within_form kind lowered returned inner) state.old result state.new }
 {
     let alloc = lowerer.alloc;
@@ -61,8 +61,8 @@ fn within<I: Storing, P: LowerInto<I>, A: ParamsPart, R: RetPart, E: ExprPart>(
 }
 
 /// The same, where the coroutine owns the bindings that are made in it.
-#[tactic(auto, unfolding(hir_lower_form::specs::Lowering::owning))]
-fn owned_within<I: Storing, P: LowerInto<I>, A: ParamsPart, R: RetPart, E: ExprPart>(
+#[tactic(auto, unfolding(hir_lower_builder::specs::Lowering::owning))]
+fn owned_within<I: StoreSink, P: LowerAll<I>, A: ParamsPart, R: RetPart, E: ExprPart>(
     lowerer: &Lowerer<P>,
     state: &mut BodyBuilder<I>,
     params: &A,
@@ -70,15 +70,15 @@ fn owned_within<I: Storing, P: LowerInto<I>, A: ParamsPart, R: RetPart, E: ExprP
     body: &E,
     is_async: bool,
     kind: CoroutineKind,
-) -> Result<Within, StoreFault>
-    requires params { A.can (P.can lowerer.now.parts) (P.spot lowerer.now.parts).place params.now }
-    requires ret { R.can (P.can lowerer.now.parts) (P.spot lowerer.now.parts).place ret.now }
-    requires body { let place = (P.spot lowerer.now.parts).place in
+) -> Result<Within, StoreError>
+    requires params { A.can (P.can lowerer.now.parts) (P.rctx lowerer.now.parts).place params.now }
+    requires ret { R.can (P.can lowerer.now.parts) (P.rctx lowerer.now.parts).place ret.now }
+    requires body { let place = (P.rctx lowerer.now.parts).place in
         E.can_inside (P.can lowerer.now.parts) (of.inside_closure is_async place) body.now }
-    ensures { let spot = P.spot lowerer.now.parts in
-        let lowered = lower_params no_closure_params (A.read spot params.now) in
-        let returned = present_type (R.read spot ret.now) in
-        let inner = lower_part (E.read (in_closure is_async spot) body.now) in
+    ensures { let rctx = P.rctx lowerer.now.parts in
+        let lowered = lower_params no_closure_params (A.read rctx params.now) in
+        let returned = present_type (R.read rctx ret.now) in
+        let inner = lower_part (E.read (in_closure is_async rctx) body.now) in
         Lowers HasWithin (owning (λ w. w.coroutine) (spec.within_form kind lowered returned inner)) state.old result state.new }
 {
     let start = state.bindings_end();
@@ -109,14 +109,14 @@ fn coroutine_closure(kind: CoroutineKind, moves: bool, args: Seq<PatId>, inner: 
 
 /// Stores it.
 #[inline(never)]
-fn store_coroutine_closure<I: Storing>(
+fn store_coroutine_closure<I: StoreSink>(
     state: &mut BodyBuilder<I>,
     at: InFile<AstPtr>,
     kind: CoroutineKind,
     moves: bool,
     args: Seq<PatId>,
     inner: Within,
-) -> Result<ExprId, StoreFault>
+) -> Result<ExprId, StoreError>
     requires { HasParts state.old.stored (spec.stored_coroutine_closure kind moves args inner) }
     ensures { let node = spec.stored_coroutine_closure kind moves args inner in
         Lowers HasExpr (step.alloc_expr node (Some at)) state.old result state.new }
@@ -126,8 +126,8 @@ fn store_coroutine_closure<I: Storing>(
 
 /// The coroutine, and what the outside hands its parameters to. No jump in it reaches what is open around it, and a `yield` in it is its
 /// own.
-#[tactic(auto, unfolding(hir_lower_form::specs::Preludes::coroutine_closure_form))]
-fn bordered_coroutine_closure<I: Storing, P: LowerInto<I>, A: ParamsPart, R: RetPart, E: ExprPart>(
+#[tactic(auto, unfolding(hir_lower_builder::specs::Preludes::coroutine_closure_form))]
+fn bordered_coroutine_closure<I: StoreSink, P: LowerAll<I>, A: ParamsPart, R: RetPart, E: ExprPart>(
     lowerer: &Lowerer<P>,
     state: &mut BodyBuilder<I>,
     at: InFile<AstPtr>,
@@ -137,15 +137,15 @@ fn bordered_coroutine_closure<I: Storing, P: LowerInto<I>, A: ParamsPart, R: Ret
     is_async: bool,
     kind: CoroutineKind,
     moves: bool,
-) -> Result<ExprId, StoreFault>
-    requires params { A.can (P.can lowerer.now.parts) (P.spot lowerer.now.parts).place params.now }
-    requires ret { R.can (P.can lowerer.now.parts) (P.spot lowerer.now.parts).place ret.now }
-    requires body { let place = (P.spot lowerer.now.parts).place in
+) -> Result<ExprId, StoreError>
+    requires params { A.can (P.can lowerer.now.parts) (P.rctx lowerer.now.parts).place params.now }
+    requires ret { R.can (P.can lowerer.now.parts) (P.rctx lowerer.now.parts).place ret.now }
+    requires body { let place = (P.rctx lowerer.now.parts).place in
         E.can_inside (P.can lowerer.now.parts) (of.inside_closure is_async place) body.now }
-    ensures { let spot = P.spot lowerer.now.parts in
-        let lowered = lower_params no_closure_params (A.read spot params.now) in
-        let returned = present_type (R.read spot ret.now) in
-        let inner = lower_part (E.read (in_closure is_async spot) body.now) in
+    ensures { let rctx = P.rctx lowerer.now.parts in
+        let lowered = lower_params no_closure_params (A.read rctx params.now) in
+        let returned = present_type (R.read rctx ret.now) in
+        let inner = lower_part (E.read (in_closure is_async rctx) body.now) in
         Lowers HasExpr (spec.coroutine_closure_form at kind moves lowered returned inner) state.old result state.new }
 {
     let outside = state.open_barrier()?;
@@ -162,11 +162,11 @@ fn bordered_coroutine_closure<I: Storing, P: LowerInto<I>, A: ParamsPart, R: Ret
 /// ```text
 /// |mut x, mut made| || { let x = x; let mut made = made; let (y, z) = made; b }
 /// ```
-#[tactic(auto, unfolding(hir_lower_form::specs::Lowering::owning))]
+#[tactic(auto, unfolding(hir_lower_builder::specs::Lowering::owning))]
 #[inline(never)]
 pub(crate) fn coroutine_closure_form<
-    I: Storing,
-    P: LowerInto<I>,
+    I: StoreSink,
+    P: LowerAll<I>,
     A: ParamsPart,
     R: RetPart,
     E: ExprPart,
@@ -180,18 +180,18 @@ pub(crate) fn coroutine_closure_form<
     is_async: bool,
     kind: CoroutineKind,
     moves: bool,
-) -> Result<ExprId, StoreFault>
-    requires params { A.can (P.can lowerer.now.parts) (P.spot lowerer.now.parts).place params.now }
-    requires ret { R.can (P.can lowerer.now.parts) (P.spot lowerer.now.parts).place ret.now }
-    requires body { let place = (P.spot lowerer.now.parts).place in
+) -> Result<ExprId, StoreError>
+    requires params { A.can (P.can lowerer.now.parts) (P.rctx lowerer.now.parts).place params.now }
+    requires ret { R.can (P.can lowerer.now.parts) (P.rctx lowerer.now.parts).place ret.now }
+    requires body { let place = (P.rctx lowerer.now.parts).place in
         E.can_inside (P.can lowerer.now.parts) (of.inside_closure is_async place) body.now }
-    ensures { let spot = P.spot lowerer.now.parts in
+    ensures { let rctx = P.rctx lowerer.now.parts in
         LowersExpr (tree.coroutine_closure_expr at
         kind
         moves
-        (A.read spot params.now)
-        (R.read spot ret.now)
-        (E.read (in_closure is_async spot) body.now)) state.old result state.new }
+        (A.read rctx params.now)
+        (R.read rctx ret.now)
+        (E.read (in_closure is_async rctx) body.now)) state.old result state.new }
 {
     let start = state.bindings_end();
     let id = bordered_coroutine_closure(

@@ -5,13 +5,13 @@ ghost use Rattle.hir_store.specs.Range.{HasStatements};
 ghost use Rattle.hir_env.specs.Answering.{def_named, rules_named};
 ghost use Rattle.hir_env.specs.Calls.{times};
 ghost use Rattle.hir_env.specs.Layers.{Defined};
-ghost use Rattle.hir_lower_expr.specs.Runs.{Counts, DefinesBehind, StmtsBehind, StmtsExist, closed, count_in, definitions};
+ghost use Rattle.hir_lower_expr.specs.Runs.{Counts, DefinesBehind, StmtsBehind, StmtsExist, close_scopes, count_in, definitions};
 
 use crate::runs::Run;
-use hir_lower_form::builder::BodyBuilder;
-use hir_lower_form::parts::{LowerInto, Lowerer};
-use hir_lower_form::storing::Storing;
-use hir_store::fault::StoreFault;
+use hir_lower_builder::builder::BodyBuilder;
+use hir_lower_builder::parts::{LowerAll, Lowerer};
+use hir_lower_builder::store_sink::StoreSink;
+use hir_store::error::StoreError;
 use hir_store::hir::Statement;
 use hir_store::ids::MacroDefId;
 use hir_store::lists::push_statement;
@@ -42,12 +42,12 @@ fn count_up(counts: &mut BTreeMap<Name, u32>, name: Name, before: u32) -> Result
 
 /// The definition of a macro, of whose name so many are defined before it. What follows it stands inside of it. One that isn't known
 /// is an item.
-fn define<I: Storing>(
+fn define<I: StoreSink>(
     state: &mut BodyBuilder<I>,
     done: &mut Seq<Statement>,
     before: u32,
     def: Option<MacroDefId>,
-) -> Result<(), StoreFault>
+) -> Result<(), StoreError>
     requires { HasStatements state.old.stored done.old }
     ensures steps { DefinesBehind before def done.old state.old result done.new state.new }
     ensures placed { StmtsExist state.old result done.new state.new }
@@ -68,14 +68,14 @@ fn define<I: Storing>(
 
 /// A macro that `macro_rules` defines. One without a name is neither counted nor looked up.
 #[inline(never)]
-pub(crate) fn rules_stmt<I: Storing, P: LowerInto<I>>(
+pub(crate) fn rules_stmt<I: StoreSink, P: LowerAll<I>>(
     lowerer: &Lowerer<P>,
     state: &mut BodyBuilder<I>,
     run: &mut Run,
     name: &Option<ast::Name>,
-) -> Result<(), StoreFault>
+) -> Result<(), StoreError>
     requires { HasStatements state.old.stored run.old.done }
-    ensures steps { let at = P.spot lowerer.now.parts in
+    ensures steps { let at = P.rctx lowerer.now.parts in
         StmtsBehind (rules_named at.answers at.place name.now) run.old state.old result run.new state.new }
     ensures placed { StmtsExist state.old result run.new.done state.new }
 {
@@ -92,14 +92,14 @@ pub(crate) fn rules_stmt<I: Storing, P: LowerInto<I>>(
 
 /// A macro that is defined in another way.
 #[inline(never)]
-pub(crate) fn def_stmt<I: Storing, P: LowerInto<I>>(
+pub(crate) fn def_stmt<I: StoreSink, P: LowerAll<I>>(
     lowerer: &Lowerer<P>,
     state: &mut BodyBuilder<I>,
     done: &mut Seq<Statement>,
     name: &Option<ast::Name>,
-) -> Result<(), StoreFault>
+) -> Result<(), StoreError>
     requires { HasStatements state.old.stored done.old }
-    ensures steps { let at = P.spot lowerer.now.parts in
+    ensures steps { let at = P.rctx lowerer.now.parts in
         DefinesBehind 0 (def_named at.answers at.place name.now) done.old state.old result done.new state.new }
     ensures placed { StmtsExist state.old result done.new state.new }
 {
@@ -112,8 +112,8 @@ pub(crate) fn def_stmt<I: Storing, P: LowerInto<I>>(
 
 /// Closes the definitions among the statements.
 #[inline(never)]
-pub(crate) fn close_definitions<I: Storing>(state: &mut BodyBuilder<I>, mut all: &[Statement])
-    ensures { state.new ≡ closed (definitions all.entry.now) state.old }
+pub(crate) fn close_definitions<I: StoreSink>(state: &mut BodyBuilder<I>, mut all: &[Statement])
+    ensures { state.new ≡ close_scopes (definitions all.entry.now) state.old }
 {
     while let [one, rest @ ..] = all {
         if let Statement::MacroDef(_) = one {

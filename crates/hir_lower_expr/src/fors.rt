@@ -3,20 +3,20 @@
 ghost use Rattle.std.specs.Prelude.{◌≡◌, [], ◌∷◌, IfOk, Some, option_map};
 ghost use Rattle.hir_syntax.specs.declared.ast.BlockExpr.{out-BlockExpr};
 ghost use Rattle.hir_store.specs.Range.{HasExpr, HasPat};
-ghost use Rattle.hir_env.specs.Answered as tree;
-ghost use Rattle.hir_env.specs.Answered.{OptionExpr};
-ghost use Rattle.hir_env.specs.declared.place.Place.{Place as AtPlace};
-ghost use Rattle.hir_env.specs.Spot.{Spot};
+ghost use Rattle.hir_env.specs.ResolvedTree as tree;
+ghost use Rattle.hir_env.specs.ResolvedTree.{OptionExpr};
+ghost use Rattle.hir_env.specs.declared.ctx.LowerCtx.{LowerCtx as AtCtx};
+ghost use Rattle.hir_env.specs.ResolveCtx.{ResolveCtx};
 ghost use Rattle.hir_env.specs.Answering as of;
 ghost use Rattle.hir_env.specs.Targets.{head_pointer, pointer_of};
-ghost use Rattle.hir_env.specs.Whole.{answered, answered_block, answered_body, body_part, expr_part, label_part, own_pointer};
+ghost use Rattle.hir_env.specs.Whole.{resolved_expr, resolved_block, resolved_body, body_part, expr_part, label_part, own_pointer};
 ghost use Rattle.hir_env.specs.Whole.{pointer_at};
-ghost use Rattle.hir_lower_form.specs.Lower.{lower_part};
-ghost use Rattle.hir_lower_form.specs.Lowering.{Lowers};
-ghost use Rattle.hir_lower_form.specs.Lowering as step;
-ghost use Rattle.hir_lower_form.specs.Made as spec;
-ghost use Rattle.hir_lower_form.specs.Methods.{HasArm, LowersExpr, LowersExprOpt};
-ghost use Rattle.hir_lower_form.specs.Nests.{Claims, IfPresent, KidsBody};
+ghost use Rattle.hir_lower_builder.specs.Lower.{lower_part};
+ghost use Rattle.hir_lower_builder.specs.Lowering.{Lowers};
+ghost use Rattle.hir_lower_builder.specs.Lowering as step;
+ghost use Rattle.hir_lower_builder.specs.Made as spec;
+ghost use Rattle.hir_lower_builder.specs.Methods.{HasArm, LowersExpr, LowersExprOpt};
+ghost use Rattle.hir_lower_builder.specs.Nests.{Claims, IfPresent, KidsBody};
 ghost use Rattle.hir_lower_expr.specs.Fors.{items_of};
 
 use crate::blocks::block_form;
@@ -25,11 +25,11 @@ use crate::questions::two_arms;
 use crate::stored::{store_made_loop, store_made_match, store_match};
 use hir_base::node::{AstPtr, InFile};
 use hir_env::lang::LangItems;
-use hir_lower_form::builder::BodyBuilder;
-use hir_lower_form::parts::{LowerInto, LowerParts, Lowerer, site};
-use hir_lower_form::storing::Storing;
+use hir_lower_builder::builder::BodyBuilder;
+use hir_lower_builder::parts::{LowerAll, LowerParts, Lowerer, site};
+use hir_lower_builder::store_sink::StoreSink;
 use hir_store::diagnostics::ExpressionStoreDiagnostics;
-use hir_store::fault::StoreFault;
+use hir_store::error::StoreError;
 use hir_store::hir::{BindingAnnotation, Expr, LoopSource, MatchArm, Pat};
 use hir_store::ids::{ExprId, HygieneId, LangItemId, PatId};
 use hir_store::lists::push_arm;
@@ -63,17 +63,17 @@ fn for_items(items: &LangItems) -> Option<ForItems>
 }
 
 /// A block as an expression, missing where a condition disables it.
-#[tactic(auto, unfolding(hir_lower_form::specs::Calls::note_gone))]
-fn asked_body<I: Storing, P: LowerInto<I>>(
+#[tactic(auto, unfolding(hir_lower_builder::specs::Calls::track_gone))]
+fn asked_body<I: StoreSink, P: LowerAll<I>>(
     lowerer: &Lowerer<P>,
     state: &mut BodyBuilder<I>,
     node: &ast::BlockExpr,
-) -> Result<ExprId, StoreFault>
-    requires { KidsBody (P.can lowerer.now.parts) (P.spot lowerer.now.parts).place node.now }
-    ensures { let spot = P.spot lowerer.now.parts in
+) -> Result<ExprId, StoreError>
+    requires { KidsBody (P.can lowerer.now.parts) (P.rctx lowerer.now.parts).place node.now }
+    ensures { let rctx = P.rctx lowerer.now.parts in
         let level = out-BlockExpr node.now in
-        let at = pointer_at spot level.id level.range in
-        let read = of.asked at (spot.answers.cfg (of.site_of at)) (answered_block spot node.now) in
+        let at = pointer_at rctx level.id level.range in
+        let read = of.asked at (rctx.answers.cfg (of.site_of at)) (resolved_block rctx node.now) in
         LowersExpr read state.old result state.new }
 {
     let at = lowerer.pointer(node.id, node.range);
@@ -86,31 +86,31 @@ fn asked_body<I: Storing, P: LowerInto<I>>(
     }
 }
 
-fn body_node<I: Storing, P: LowerInto<I>>(
+fn body_node<I: StoreSink, P: LowerAll<I>>(
     lowerer: &Lowerer<P>,
     state: &mut BodyBuilder<I>,
     node: &ast::BlockExpr,
-) -> Result<ExprId, StoreFault>
-    requires { KidsBody (P.can lowerer.now.parts) (P.spot lowerer.now.parts).place node.now }
-    ensures { LowersExpr (answered_body (P.spot lowerer.now.parts) node.now) state.old result state.new }
+) -> Result<ExprId, StoreError>
+    requires { KidsBody (P.can lowerer.now.parts) (P.rctx lowerer.now.parts).place node.now }
+    ensures { LowersExpr (resolved_body (P.rctx lowerer.now.parts) node.now) state.old result state.new }
 {
     asked_body(lowerer, state, node)
 }
 
 /// The body of a `for`, which is there or isn't.
 pub trait BodyPart {
-    ghost can: { Claims → AtPlace → Self → Type 0 };
+    ghost can: { Claims → AtCtx → Self → Type 0 };
 
-    ghost read: { Spot → Self → OptionExpr };
+    ghost read: { ResolveCtx → Self → OptionExpr };
 
     /// The body, missing where it is absent or a condition disables it.
-    fn lower<I: Storing, P: LowerInto<I>>(
+    fn lower<I: StoreSink, P: LowerAll<I>>(
         &self,
         lowerer: &Lowerer<P>,
         state: &mut BodyBuilder<I>,
-    ) -> Result<ExprId, StoreFault>
-        requires { can (P.can lowerer.now.parts) (P.spot lowerer.now.parts).place self.now }
-        ensures { LowersExprOpt (read (P.spot lowerer.now.parts) self.now) state.old result state.new };
+    ) -> Result<ExprId, StoreError>
+        requires { can (P.can lowerer.now.parts) (P.rctx lowerer.now.parts).place self.now }
+        ensures { LowersExprOpt (read (P.rctx lowerer.now.parts) self.now) state.old result state.new };
 }
 
 impl BodyPart for Option<Boxed<ast::BlockExpr>> {
@@ -118,11 +118,11 @@ impl BodyPart for Option<Boxed<ast::BlockExpr>> {
 
     ghost read = { body_part };
 
-    fn lower<I: Storing, P: LowerInto<I>>(
+    fn lower<I: StoreSink, P: LowerAll<I>>(
         &self,
         lowerer: &Lowerer<P>,
         state: &mut BodyBuilder<I>,
-    ) -> Result<ExprId, StoreFault> {
+    ) -> Result<ExprId, StoreError> {
         match self {
             None => state.missing_expr(),
             Some(part) => body_node(lowerer, state, part.get()),
@@ -131,15 +131,15 @@ impl BodyPart for Option<Boxed<ast::BlockExpr>> {
 }
 
 /// What asks the iterator for its next item.
-#[tactic(auto, unfolding(hir_lower_form::specs::Made::next_form))]
+#[tactic(auto, unfolding(hir_lower_builder::specs::Made::next_form))]
 #[inline(never)]
-fn next_item<I: Storing>(
+fn next_item<I: StoreSink>(
     alloc: Global,
     state: &mut BodyBuilder<I>,
     at: InFile<AstPtr>,
     item: LangItemId,
     number: u32,
-) -> Result<ExprId, StoreFault>
+) -> Result<ExprId, StoreError>
     ensures { Lowers HasExpr (spec.next_form at item number) state.old result state.new }
 {
     let iterator = state.made_reference(alloc, at, number)?;
@@ -147,13 +147,13 @@ fn next_item<I: Storing>(
 }
 
 /// The arm for no item, which ends the loop.
-#[tactic(auto, unfolding(hir_lower_form::specs::Made::done_arm_form))]
+#[tactic(auto, unfolding(hir_lower_builder::specs::Made::done_arm_form))]
 #[inline(never)]
-fn done_arm<I: Storing>(
+fn done_arm<I: StoreSink>(
     state: &mut BodyBuilder<I>,
     at: InFile<AstPtr>,
     item: LangItemId,
-) -> Result<MatchArm, StoreFault>
+) -> Result<MatchArm, StoreError>
     ensures { Lowers HasArm (spec.done_arm_form at item) state.old result state.new }
 {
     let path = Path::LangItem(item);
@@ -161,23 +161,23 @@ fn done_arm<I: Storing>(
     let pat = state.alloc_pat(Pat::Path { path, hygiene }, None)?;
     let label = None;
     let expr = None;
-    let expr = state.alloc_made(Expr::Break { label, expr }, Some(at))?;
+    let expr = state.alloc_desugared(Expr::Break { label, expr }, Some(at))?;
     let guard = None;
     Ok(MatchArm { pat, guard, expr })
 }
 
 /// The arm for an item that the pattern fits, with the body.
-#[tactic(auto, unfolding(hir_lower_form::specs::Made::gives_arm_form))]
-fn gives_arm<I: Storing, P: LowerInto<I>, B: BodyPart>(
+#[tactic(auto, unfolding(hir_lower_builder::specs::Made::gives_arm_form))]
+fn gives_arm<I: StoreSink, P: LowerAll<I>, B: BodyPart>(
     lowerer: &Lowerer<P>,
     state: &mut BodyBuilder<I>,
     item: LangItemId,
     part: PatId,
     body: &B,
-) -> Result<MatchArm, StoreFault>
+) -> Result<MatchArm, StoreError>
     requires part { HasPat state.old.stored part }
-    requires body { B.can (P.can lowerer.now.parts) (P.spot lowerer.now.parts).place body.now }
-    ensures { let body = lower_part (B.read (P.spot lowerer.now.parts) body.now) in
+    requires body { B.can (P.can lowerer.now.parts) (P.rctx lowerer.now.parts).place body.now }
+    ensures { let body = lower_part (B.read (P.rctx lowerer.now.parts) body.now) in
         Lowers HasArm (spec.gives_arm_form item part body) state.old result state.new }
 {
     let pat = state.item_pat(lowerer.alloc, item, part)?;
@@ -188,14 +188,14 @@ fn gives_arm<I: Storing, P: LowerInto<I>, B: BodyPart>(
 
 /// A block with nothing but this value.
 #[inline(never)]
-fn only_tail<I: Storing>(
+fn only_tail<I: StoreSink>(
     alloc: Global,
     state: &mut BodyBuilder<I>,
     at: InFile<AstPtr>,
     value: ExprId,
-) -> Result<ExprId, StoreFault>
+) -> Result<ExprId, StoreError>
     requires { HasExpr state.old.stored value }
-    ensures { Lowers HasExpr (step.alloc_made (spec.only_tail value) (Some at)) state.old result state.new }
+    ensures { Lowers HasExpr (step.alloc_desugared (spec.only_tail value) (Some at)) state.old result state.new }
 {
     let expr = Expr::Block {
         is_unsafe: false,
@@ -204,13 +204,13 @@ fn only_tail<I: Storing>(
         statements: Seq::new(alloc),
         tail: Some(value),
     };
-    state.alloc_made(expr, Some(at))
+    state.alloc_desugared(expr, Some(at))
 }
 
 /// One turn of the loop, for the iterator of this name.
-#[tactic(auto, unfolding(hir_lower_form::specs::Made::for_turn_form))]
+#[tactic(auto, unfolding(hir_lower_builder::specs::Made::for_iteration_form))]
 #[inline(never)]
-fn turn<I: Storing, P: LowerInto<I>, B: BodyPart>(
+fn iteration<I: StoreSink, P: LowerAll<I>, B: BodyPart>(
     lowerer: &Lowerer<P>,
     state: &mut BodyBuilder<I>,
     at: InFile<AstPtr>,
@@ -218,11 +218,11 @@ fn turn<I: Storing, P: LowerInto<I>, B: BodyPart>(
     number: u32,
     pat: PatId,
     body: &B,
-) -> Result<ExprId, StoreFault>
+) -> Result<ExprId, StoreError>
     requires pat { HasPat state.old.stored pat }
-    requires body { B.can (P.can lowerer.now.parts) (P.spot lowerer.now.parts).place body.now }
-    ensures { let body = lower_part (B.read (P.spot lowerer.now.parts) body.now) in
-        Lowers HasExpr (spec.for_turn_form at (items_of items) number pat body) state.old result state.new }
+    requires body { B.can (P.can lowerer.now.parts) (P.rctx lowerer.now.parts).place body.now }
+    ensures { let body = lower_part (B.read (P.rctx lowerer.now.parts) body.now) in
+        Lowers HasExpr (spec.for_iteration_form at (items_of items) number pat body) state.old result state.new }
 {
     let expr = next_item(lowerer.alloc, state, at, items.next, number)?;
     let done = done_arm(state, at, items.is_done)?;
@@ -233,9 +233,9 @@ fn turn<I: Storing, P: LowerInto<I>, B: BodyPart>(
 }
 
 /// The loop over such turns.
-#[tactic(auto, unfolding(hir_lower_form::specs::Made::made_loop_form))]
+#[tactic(auto, unfolding(hir_lower_builder::specs::Made::made_loop_form))]
 #[inline(never)]
-fn turns<I: Storing, P: LowerInto<I>, B: BodyPart>(
+fn iterations<I: StoreSink, P: LowerAll<I>, B: BodyPart>(
     lowerer: &Lowerer<P>,
     state: &mut BodyBuilder<I>,
     at: InFile<AstPtr>,
@@ -244,23 +244,23 @@ fn turns<I: Storing, P: LowerInto<I>, B: BodyPart>(
     number: u32,
     pat: PatId,
     body: &B,
-) -> Result<ExprId, StoreFault>
+) -> Result<ExprId, StoreError>
     requires pat { HasPat state.old.stored pat }
-    requires body { B.can (P.can lowerer.now.parts) (P.spot lowerer.now.parts).place body.now }
-    ensures { let spot = P.spot lowerer.now.parts in
-        let turn = spec.for_turn_form at (items_of items) number pat (lower_part (B.read spot body.now)) in
-        Lowers HasExpr (spec.made_loop_form at (label_part spot label.now) turn) state.old result state.new }
+    requires body { B.can (P.can lowerer.now.parts) (P.rctx lowerer.now.parts).place body.now }
+    ensures { let rctx = P.rctx lowerer.now.parts in
+        let iteration = spec.for_iteration_form at (items_of items) number pat (lower_part (B.read rctx body.now)) in
+        Lowers HasExpr (spec.made_loop_form at (label_part rctx label.now) iteration) state.old result state.new }
 {
     let source = LoopSource::ForLoop;
     match label {
         None => {
-            let body = turn(lowerer, state, at, items, number, pat, body)?;
+            let body = iteration(lowerer, state, at, items, number, pat, body)?;
             let label = None;
             store_made_loop(state, at, body, label, source)
         }
         Some(label) => {
             let label = lowerer.open_label(state, label)?;
-            let body = turn(lowerer, state, at, items, number, pat, body)?;
+            let body = iteration(lowerer, state, at, items, number, pat, body)?;
             state.close();
             let label = Some(label);
             store_made_loop(state, at, body, label, source)
@@ -270,7 +270,7 @@ fn turns<I: Storing, P: LowerInto<I>, B: BodyPart>(
 
 /// The node of an expression, which of a block is the block's.
 fn own_node<P: LowerParts>(lowerer: &Lowerer<P>, node: &ast::Expr) -> InFile<AstPtr>
-    ensures { result ≡ own_pointer (P.spot lowerer.now.parts) node.now }
+    ensures { result ≡ own_pointer (P.rctx lowerer.now.parts) node.now }
 {
     match &node.kind {
         ast::ExprKind::BlockExpr(block) => {
@@ -282,7 +282,7 @@ fn own_node<P: LowerParts>(lowerer: &Lowerer<P>, node: &ast::Expr) -> InFile<Ast
 }
 
 fn node_of<P: LowerParts>(lowerer: &Lowerer<P>, node: &ast::Expr) -> InFile<AstPtr>
-    ensures { result ≡ pointer_of (answered (P.spot lowerer.now.parts) node.now) }
+    ensures { result ≡ pointer_of (resolved_expr (P.rctx lowerer.now.parts) node.now) }
 {
     own_node(lowerer, node)
 }
@@ -293,7 +293,7 @@ pub(crate) fn head_node<P: LowerParts>(
     at: InFile<AstPtr>,
     head: &Option<Boxed<ast::Expr>>,
 ) -> InFile<AstPtr>
-    ensures { result ≡ head_pointer at (expr_part (P.spot lowerer.now.parts) head.now) }
+    ensures { result ≡ head_pointer at (expr_part (P.rctx lowerer.now.parts) head.now) }
 {
     match head {
         None => at,
@@ -313,8 +313,8 @@ fn one_arm(alloc: Global, pat: PatId, expr: ExprId) -> Result<Seq<MatchArm>, All
 }
 
 /// The head and the pattern lie outside of the label.
-#[tactic(auto, unfolding(hir_lower_form::specs::Made::for_form))]
-fn for_with<I: Storing, P: LowerInto<I>, Q: PatPart, E: ExprPart, B: BodyPart>(
+#[tactic(auto, unfolding(hir_lower_builder::specs::Made::for_form))]
+fn for_with<I: StoreSink, P: LowerAll<I>, Q: PatPart, E: ExprPart, B: BodyPart>(
     lowerer: &Lowerer<P>,
     state: &mut BodyBuilder<I>,
     at: InFile<AstPtr>,
@@ -323,17 +323,17 @@ fn for_with<I: Storing, P: LowerInto<I>, Q: PatPart, E: ExprPart, B: BodyPart>(
     pat: &Q,
     iterable: &E,
     body: &B,
-) -> Result<ExprId, StoreFault>
-    requires pat { Q.can (P.can lowerer.now.parts) (P.spot lowerer.now.parts).place pat.now }
+) -> Result<ExprId, StoreError>
+    requires pat { Q.can (P.can lowerer.now.parts) (P.rctx lowerer.now.parts).place pat.now }
     requires iterable { E.can (P.can lowerer.now.parts) iterable.now }
-    requires body { B.can (P.can lowerer.now.parts) (P.spot lowerer.now.parts).place body.now }
-    ensures { let spot = P.spot lowerer.now.parts in
+    requires body { B.can (P.can lowerer.now.parts) (P.rctx lowerer.now.parts).place body.now }
+    ensures { let rctx = P.rctx lowerer.now.parts in
         LowersExpr (tree.for_expr at (items_of items)
-        (label_part spot label.now)
-        (of.label_written spot.answers spot.place label.now)
-        (Q.read spot pat.now)
-        (E.read spot iterable.now)
-        (B.read spot body.now)) state.old result state.new }
+        (label_part rctx label.now)
+        (of.label_written rctx.answers rctx.place label.now)
+        (Q.read rctx pat.now)
+        (E.read rctx iterable.now)
+        (B.read rctx body.now)) state.old result state.new }
 {
     let head_at = iterable.node_or(lowerer, at);
     let head = iterable.lower(lowerer, state)?;
@@ -341,8 +341,8 @@ fn for_with<I: Storing, P: LowerInto<I>, Q: PatPart, E: ExprPart, B: BodyPart>(
     let pat = pat.lower(lowerer, state)?;
     let number = state.made_number()?;
     let iterator = state.made_bind(BindingAnnotation::Mutable, number)?;
-    let turns = turns(lowerer, state, at, items, label, number, pat, body)?;
-    let arms = one_arm(lowerer.alloc, iterator, turns)?;
+    let iterations = iterations(lowerer, state, at, items, label, number, pat, body)?;
+    let arms = one_arm(lowerer.alloc, iterator, iterations)?;
     store_match(state, at, expr, arms)
 }
 
@@ -356,7 +356,7 @@ fn for_with<I: Storing, P: LowerInto<I>, Q: PatPart, E: ExprPart, B: BodyPart>(
 /// }
 /// ```
 #[inline(never)]
-pub fn for_form<I: Storing, P: LowerInto<I>, Q: PatPart, E: ExprPart, B: BodyPart>(
+pub fn for_form<I: StoreSink, P: LowerAll<I>, Q: PatPart, E: ExprPart, B: BodyPart>(
     lowerer: &Lowerer<P>,
     state: &mut BodyBuilder<I>,
     at: InFile<AstPtr>,
@@ -364,17 +364,17 @@ pub fn for_form<I: Storing, P: LowerInto<I>, Q: PatPart, E: ExprPart, B: BodyPar
     pat: &Q,
     iterable: &E,
     body: &B,
-) -> Result<ExprId, StoreFault>
-    requires pat { Q.can (P.can lowerer.now.parts) (P.spot lowerer.now.parts).place pat.now }
+) -> Result<ExprId, StoreError>
+    requires pat { Q.can (P.can lowerer.now.parts) (P.rctx lowerer.now.parts).place pat.now }
     requires iterable { E.can (P.can lowerer.now.parts) iterable.now }
-    requires body { B.can (P.can lowerer.now.parts) (P.spot lowerer.now.parts).place body.now }
-    ensures { let spot = P.spot lowerer.now.parts in
-        LowersExpr (of.for_of (of.for_items spot.answers.lang_items) at
-        (label_part spot label.now)
-        (of.label_written spot.answers spot.place label.now)
-        (Q.read spot pat.now)
-        (E.read spot iterable.now)
-        (B.read spot body.now)) state.old result state.new }
+    requires body { B.can (P.can lowerer.now.parts) (P.rctx lowerer.now.parts).place body.now }
+    ensures { let rctx = P.rctx lowerer.now.parts in
+        LowersExpr (of.for_of (of.for_items rctx.answers.lang_items) at
+        (label_part rctx label.now)
+        (of.label_written rctx.answers rctx.place label.now)
+        (Q.read rctx pat.now)
+        (E.read rctx iterable.now)
+        (B.read rctx body.now)) state.old result state.new }
 {
     match for_items(lowerer.parts.lang_items()) {
         None => state.missing_expr(),

@@ -4,7 +4,7 @@ ghost use Rattle.std.specs.Prelude.{◌≡◌, OnOk, max};
 ghost use Rattle.hir_store.specs.Arenas.{past, past_option};
 ghost use Rattle.hir_store.specs.Past.{join, past_arm, past_arms, past_present, past_statement, past_statements};
 ghost use Rattle.hir_store.specs.Range.{past_field};
-ghost use Rattle.hir_lower_form.specs.Forms.{push_some};
+ghost use Rattle.hir_lower_builder.specs.Forms.{push_some};
 
 use hir_store::hir::{MatchArm, RecordLitField, Statement};
 use hir_store::lists::{push_arm, push_field, push_statement};

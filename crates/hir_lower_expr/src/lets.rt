@@ -1,39 +1,39 @@
 //! `let`, as a condition and as a statement.
 
-ghost use Rattle.hir_env.specs.Answered as tree;
-ghost use Rattle.hir_env.specs.Answered.{OptionBlock};
+ghost use Rattle.hir_env.specs.ResolvedTree as tree;
+ghost use Rattle.hir_env.specs.ResolvedTree.{OptionBlock};
 ghost use Rattle.hir_env.specs.Answering.{asked_stmt, site_of};
-ghost use Rattle.hir_env.specs.declared.place.Place.{Place as AtPlace};
-ghost use Rattle.hir_env.specs.Spot.{Spot};
+ghost use Rattle.hir_env.specs.declared.ctx.LowerCtx.{LowerCtx as AtCtx};
+ghost use Rattle.hir_env.specs.ResolveCtx.{ResolveCtx};
 ghost use Rattle.hir_env.specs.Whole.{let_else_part};
-ghost use Rattle.hir_lower_form.specs.Nests.{Claims, IfPresent, KidsLetElse};
-ghost use Rattle.hir_lower_form.specs.Methods.{LowersBlockIfPresent, LowersExpr, LowersStmt};
+ghost use Rattle.hir_lower_builder.specs.Nests.{Claims, IfPresent, KidsLetElse};
+ghost use Rattle.hir_lower_builder.specs.Methods.{LowersBlockIfPresent, LowersExpr, LowersStmt};
 
 use crate::part::{ExprPart, PatPart, TypePart};
 use hir_base::node::{AstPtr, InFile};
-use hir_lower_form::builder::BodyBuilder;
-use hir_lower_form::parts::{LowerInto, Lowerer, site};
-use hir_lower_form::storing::Storing;
+use hir_lower_builder::builder::BodyBuilder;
+use hir_lower_builder::parts::{LowerAll, Lowerer, site};
+use hir_lower_builder::store_sink::StoreSink;
 use hir_store::diagnostics::ExpressionStoreDiagnostics;
-use hir_store::fault::StoreFault;
+use hir_store::error::StoreError;
 use hir_store::hir::{Expr, Statement};
 use hir_store::ids::ExprId;
 use hir_syntax::ast;
 
 /// The pattern before the expression.
-#[tactic(auto, unfolding(hir_lower_form::specs::Forms::let_form))]
+#[tactic(auto, unfolding(hir_lower_builder::specs::Forms::let_form))]
 #[inline(never)]
-pub fn let_form<I: Storing, P: LowerInto<I>, Q: PatPart, E: ExprPart>(
+pub fn let_form<I: StoreSink, P: LowerAll<I>, Q: PatPart, E: ExprPart>(
     lowerer: &Lowerer<P>,
     state: &mut BodyBuilder<I>,
     at: InFile<AstPtr>,
     pat: &Q,
     expr: &E,
-) -> Result<ExprId, StoreFault>
-    requires pat { Q.can (P.can lowerer.now.parts) (P.spot lowerer.now.parts).place pat.now }
+) -> Result<ExprId, StoreError>
+    requires pat { Q.can (P.can lowerer.now.parts) (P.rctx lowerer.now.parts).place pat.now }
     requires expr { E.can (P.can lowerer.now.parts) expr.now }
-    ensures { let spot = P.spot lowerer.now.parts in
-        LowersExpr (tree.let_expr at (Q.read spot pat.now) (E.read spot expr.now)) state.old result state.new }
+    ensures { let rctx = P.rctx lowerer.now.parts in
+        LowersExpr (tree.let_expr at (Q.read rctx pat.now) (E.read rctx expr.now)) state.old result state.new }
 {
     let pat = pat.lower(lowerer, state)?;
     let expr = expr.lower(lowerer, state)?;
@@ -42,17 +42,17 @@ pub fn let_form<I: Storing, P: LowerInto<I>, Q: PatPart, E: ExprPart>(
 
 /// The `else` of a `let`, none where it is absent.
 pub trait LetElsePart {
-    ghost can: { Claims → AtPlace → Self → Type 0 };
+    ghost can: { Claims → AtCtx → Self → Type 0 };
 
-    ghost read: { Spot → Self → OptionBlock };
+    ghost read: { ResolveCtx → Self → OptionBlock };
 
-    fn lower<I: Storing, P: LowerInto<I>>(
+    fn lower<I: StoreSink, P: LowerAll<I>>(
         &self,
         lowerer: &Lowerer<P>,
         state: &mut BodyBuilder<I>,
-    ) -> Result<Option<ExprId>, StoreFault>
-        requires { can (P.can lowerer.now.parts) (P.spot lowerer.now.parts).place self.now }
-        ensures { LowersBlockIfPresent (read (P.spot lowerer.now.parts) self.now) state.old result state.new };
+    ) -> Result<Option<ExprId>, StoreError>
+        requires { can (P.can lowerer.now.parts) (P.rctx lowerer.now.parts).place self.now }
+        ensures { LowersBlockIfPresent (read (P.rctx lowerer.now.parts) self.now) state.old result state.new };
 }
 
 impl LetElsePart for Option<ast::LetElse> {
@@ -60,11 +60,11 @@ impl LetElsePart for Option<ast::LetElse> {
 
     ghost read = { let_else_part };
 
-    fn lower<I: Storing, P: LowerInto<I>>(
+    fn lower<I: StoreSink, P: LowerAll<I>>(
         &self,
         lowerer: &Lowerer<P>,
         state: &mut BodyBuilder<I>,
-    ) -> Result<Option<ExprId>, StoreFault> {
+    ) -> Result<Option<ExprId>, StoreError> {
         match self {
             None | Some(None) => Ok(None),
             Some(Some(block)) => Ok(Some(lowerer.collect_block(state, block.get())?)),
@@ -73,25 +73,25 @@ impl LetElsePart for Option<ast::LetElse> {
 }
 
 /// A `let` that no condition disables: its pattern, its type, its initializer, its `else`.
-#[tactic(auto, unfolding(hir_lower_form::specs::Forms::let_stmt_form))]
-fn kept_let<I: Storing, P: LowerInto<I>, Q: PatPart, T: TypePart, E: ExprPart, L: LetElsePart>(
+#[tactic(auto, unfolding(hir_lower_builder::specs::Forms::let_stmt_form))]
+fn kept_let<I: StoreSink, P: LowerAll<I>, Q: PatPart, T: TypePart, E: ExprPart, L: LetElsePart>(
     lowerer: &Lowerer<P>,
     state: &mut BodyBuilder<I>,
     pat: &Q,
     ty: &T,
     init: &E,
     else_: &L,
-) -> Result<Option<Statement>, StoreFault>
-    requires pat { Q.can (P.can lowerer.now.parts) (P.spot lowerer.now.parts).place pat.now }
-    requires ty { T.can (P.can lowerer.now.parts) (P.spot lowerer.now.parts).place ty.now }
+) -> Result<Option<Statement>, StoreError>
+    requires pat { Q.can (P.can lowerer.now.parts) (P.rctx lowerer.now.parts).place pat.now }
+    requires ty { T.can (P.can lowerer.now.parts) (P.rctx lowerer.now.parts).place ty.now }
     requires init { E.can (P.can lowerer.now.parts) init.now }
-    requires else_ { L.can (P.can lowerer.now.parts) (P.spot lowerer.now.parts).place else_.now }
-    ensures { let spot = P.spot lowerer.now.parts in
+    requires else_ { L.can (P.can lowerer.now.parts) (P.rctx lowerer.now.parts).place else_.now }
+    ensures { let rctx = P.rctx lowerer.now.parts in
         LowersStmt (tree.let_stmt
-        (Q.read spot pat.now)
-        (T.read spot ty.now)
-        (E.read spot init.now)
-        (L.read spot else_.now)) state.old result state.new }
+        (Q.read rctx pat.now)
+        (T.read rctx ty.now)
+        (E.read rctx init.now)
+        (L.read rctx else_.now)) state.old result state.new }
 {
     let pat = pat.lower(lowerer, state)?;
     let type_ref = ty.lower_if_present(lowerer, state)?;
@@ -108,8 +108,8 @@ fn kept_let<I: Storing, P: LowerInto<I>, Q: PatPart, T: TypePart, E: ExprPart, L
 /// The statement, none where a condition disables it.
 #[inline(never)]
 pub(crate) fn let_stmt<
-    I: Storing,
-    P: LowerInto<I>,
+    I: StoreSink,
+    P: LowerAll<I>,
     Q: PatPart,
     T: TypePart,
     E: ExprPart,
@@ -122,17 +122,17 @@ pub(crate) fn let_stmt<
     ty: &T,
     init: &E,
     else_: &L,
-) -> Result<Option<Statement>, StoreFault>
-    requires pat { Q.can (P.can lowerer.now.parts) (P.spot lowerer.now.parts).place pat.now }
-    requires ty { T.can (P.can lowerer.now.parts) (P.spot lowerer.now.parts).place ty.now }
+) -> Result<Option<Statement>, StoreError>
+    requires pat { Q.can (P.can lowerer.now.parts) (P.rctx lowerer.now.parts).place pat.now }
+    requires ty { T.can (P.can lowerer.now.parts) (P.rctx lowerer.now.parts).place ty.now }
     requires init { E.can (P.can lowerer.now.parts) init.now }
-    requires else_ { L.can (P.can lowerer.now.parts) (P.spot lowerer.now.parts).place else_.now }
-    ensures { let spot = P.spot lowerer.now.parts in
-        LowersStmt (asked_stmt at (spot.answers.cfg (site_of at)) (tree.let_stmt
-        (Q.read spot pat.now)
-        (T.read spot ty.now)
-        (E.read spot init.now)
-        (L.read spot else_.now))) state.old result state.new }
+    requires else_ { L.can (P.can lowerer.now.parts) (P.rctx lowerer.now.parts).place else_.now }
+    ensures { let rctx = P.rctx lowerer.now.parts in
+        LowersStmt (asked_stmt at (rctx.answers.cfg (site_of at)) (tree.let_stmt
+        (Q.read rctx pat.now)
+        (T.read rctx ty.now)
+        (E.read rctx init.now)
+        (L.read rctx else_.now))) state.old result state.new }
 {
     match lowerer.parts.cfg(site(at)) {
         Err(cfg) => {

@@ -2,18 +2,18 @@
 
 ghost use Rattle.std.specs.Prelude.{◌≡◌, ◌≢◌, Some};
 ghost use Rattle.hir_base.specs.declared.op.BinaryOp.TheVariants as operator;
-ghost use Rattle.hir_env.specs.Answered as tree;
+ghost use Rattle.hir_env.specs.ResolvedTree as tree;
 ghost use Rattle.hir_env.specs.Answering as of;
 ghost use Rattle.hir_env.specs.Targets.{resolves};
-ghost use Rattle.hir_lower_form.specs.Methods.{LowersExpr};
+ghost use Rattle.hir_lower_builder.specs.Methods.{LowersExpr};
 
 use crate::part::ExprPart;
 use hir_base::node::{AstPtr, InFile};
-use hir_lower_form::builder::BodyBuilder;
-use hir_lower_form::names::name_of;
-use hir_lower_form::parts::{LowerInto, Lowerer};
-use hir_lower_form::storing::Storing;
-use hir_store::fault::StoreFault;
+use hir_lower_builder::builder::BodyBuilder;
+use hir_lower_builder::names::name_of;
+use hir_lower_builder::parts::{LowerAll, Lowerer};
+use hir_lower_builder::store_sink::StoreSink;
+use hir_store::error::StoreError;
 use hir_store::hir::{Expr, Mutability, Rawness};
 use hir_store::ids::ExprId;
 use hir_syntax::ast;
@@ -36,19 +36,19 @@ fn mutability(is_mut: bool) -> Mutability
 }
 
 /// A field of a value, by its name.
-#[tactic(auto, unfolding(hir_lower_form::specs::Forms::operand_form))]
+#[tactic(auto, unfolding(hir_lower_builder::specs::Forms::operand_form))]
 #[inline(never)]
-pub fn field_form<I: Storing, P: LowerInto<I>, E: ExprPart>(
+pub fn field_form<I: StoreSink, P: LowerAll<I>, E: ExprPart>(
     lowerer: &Lowerer<P>,
     state: &mut BodyBuilder<I>,
     at: InFile<AstPtr>,
     expr: &E,
     name: &Option<ast::Name>,
-) -> Result<ExprId, StoreFault>
+) -> Result<ExprId, StoreError>
     requires { E.can (P.can lowerer.now.parts) expr.now }
     ensures { LowersExpr (tree.unary_expr at
         (tree.field_of (of.name_or_missing name.now))
-        (E.read (P.spot lowerer.now.parts) expr.now)) state.old result state.new }
+        (E.read (P.rctx lowerer.now.parts) expr.now)) state.old result state.new }
 {
     let expr = expr.lower(lowerer, state)?;
     let name = name_of(name)?;
@@ -56,17 +56,17 @@ pub fn field_form<I: Storing, P: LowerInto<I>, E: ExprPart>(
 }
 
 /// Without its operator the expression is missing, and its operand stays.
-#[tactic(auto, unfolding(hir_lower_form::specs::Forms::operand_form))]
+#[tactic(auto, unfolding(hir_lower_builder::specs::Forms::operand_form))]
 #[inline(never)]
-pub fn prefix_form<I: Storing, P: LowerInto<I>, E: ExprPart>(
+pub fn prefix_form<I: StoreSink, P: LowerAll<I>, E: ExprPart>(
     lowerer: &Lowerer<P>,
     state: &mut BodyBuilder<I>,
     at: InFile<AstPtr>,
     op: Option<ast::UnaryOp>,
     expr: &E,
-) -> Result<ExprId, StoreFault>
+) -> Result<ExprId, StoreError>
     requires { E.can (P.can lowerer.now.parts) expr.now }
-    ensures { LowersExpr (of.prefix_expr at op (E.read (P.spot lowerer.now.parts) expr.now)) state.old result state.new }
+    ensures { LowersExpr (of.prefix_expr at op (E.read (P.rctx lowerer.now.parts) expr.now)) state.old result state.new }
 {
     let expr = expr.lower(lowerer, state)?;
     match op {
@@ -76,20 +76,20 @@ pub fn prefix_form<I: Storing, P: LowerInto<I>, E: ExprPart>(
 }
 
 /// A reference to a place, or a raw pointer to one.
-#[tactic(auto, unfolding(hir_lower_form::specs::Forms::operand_form))]
+#[tactic(auto, unfolding(hir_lower_builder::specs::Forms::operand_form))]
 #[inline(never)]
-pub fn reference_form<I: Storing, P: LowerInto<I>, E: ExprPart>(
+pub fn reference_form<I: StoreSink, P: LowerAll<I>, E: ExprPart>(
     lowerer: &Lowerer<P>,
     state: &mut BodyBuilder<I>,
     at: InFile<AstPtr>,
     raw: bool,
     is_mut: bool,
     expr: &E,
-) -> Result<ExprId, StoreFault>
+) -> Result<ExprId, StoreError>
     requires { E.can (P.can lowerer.now.parts) expr.now }
     ensures { LowersExpr (tree.unary_expr at
         (tree.reference_to (of.rawness raw) (of.mutability is_mut))
-        (E.read (P.spot lowerer.now.parts) expr.now)) state.old result state.new }
+        (E.read (P.rctx lowerer.now.parts) expr.now)) state.old result state.new }
 {
     let expr = expr.lower(lowerer, state)?;
     let rawness = rawness(raw);
@@ -105,23 +105,23 @@ pub fn reference_form<I: Storing, P: LowerInto<I>, E: ExprPart>(
 }
 
 /// The operands from left to right, whatever the operator, which is no `=`.
-#[tactic(auto, using(hir_lower_form::proofs::Binaries::binary_is), unfolding(hir_lower_form::specs::Forms::operands_form))]
+#[tactic(auto, using(hir_lower_builder::proofs::Binaries::binary_is), unfolding(hir_lower_builder::specs::Forms::operands_form))]
 #[inline(never)]
-pub(crate) fn binary_form<I: Storing, P: LowerInto<I>, E: ExprPart>(
+pub(crate) fn binary_form<I: StoreSink, P: LowerAll<I>, E: ExprPart>(
     lowerer: &Lowerer<P>,
     state: &mut BodyBuilder<I>,
     at: InFile<AstPtr>,
     op: Option<ast::BinaryOp>,
     lhs: &E,
     rhs: &E,
-) -> Result<ExprId, StoreFault>
+) -> Result<ExprId, StoreError>
     requires lhs { E.can (P.can lowerer.now.parts) lhs.now }
     requires rhs { E.can (P.can lowerer.now.parts) rhs.now }
     requires other { op ≢ Some operator.Assign }
-    ensures { let spot = P.spot lowerer.now.parts in
-        LowersExpr (of.bin_expr (resolves spot.answers spot.place) at op
-        (E.read spot lhs.now)
-        (E.read spot rhs.now)) state.old result state.new }
+    ensures { let rctx = P.rctx lowerer.now.parts in
+        LowersExpr (of.bin_expr (resolves rctx.answers rctx.place) at op
+        (E.read rctx lhs.now)
+        (E.read rctx rhs.now)) state.old result state.new }
 {
     let lhs = lhs.lower(lowerer, state)?;
     let rhs = rhs.lower(lowerer, state)?;
@@ -129,20 +129,20 @@ pub(crate) fn binary_form<I: Storing, P: LowerInto<I>, E: ExprPart>(
 }
 
 /// An element: what is indexed, then the index.
-#[tactic(auto, unfolding(hir_lower_form::specs::Forms::operands_form))]
+#[tactic(auto, unfolding(hir_lower_builder::specs::Forms::operands_form))]
 #[inline(never)]
-pub fn index_form<I: Storing, P: LowerInto<I>, E: ExprPart>(
+pub fn index_form<I: StoreSink, P: LowerAll<I>, E: ExprPart>(
     lowerer: &Lowerer<P>,
     state: &mut BodyBuilder<I>,
     at: InFile<AstPtr>,
     base: &E,
     index: &E,
-) -> Result<ExprId, StoreFault>
+) -> Result<ExprId, StoreError>
     requires base { E.can (P.can lowerer.now.parts) base.now }
     requires index { E.can (P.can lowerer.now.parts) index.now }
     ensures { LowersExpr (tree.binary_expr at tree.index_of
-        (E.read (P.spot lowerer.now.parts) base.now)
-        (E.read (P.spot lowerer.now.parts) index.now)) state.old result state.new }
+        (E.read (P.rctx lowerer.now.parts) base.now)
+        (E.read (P.rctx lowerer.now.parts) index.now)) state.old result state.new }
 {
     let base = base.lower(lowerer, state)?;
     let index = index.lower(lowerer, state)?;
@@ -150,18 +150,18 @@ pub fn index_form<I: Storing, P: LowerInto<I>, E: ExprPart>(
 }
 
 /// Outside of async code it is a fault, which comes behind those of the operand.
-#[tactic(auto, unfolding(hir_lower_form::specs::Forms::await_form))]
+#[tactic(auto, unfolding(hir_lower_builder::specs::Forms::await_form))]
 #[inline(never)]
-pub fn await_form<I: Storing, P: LowerInto<I>, E: ExprPart>(
+pub fn await_form<I: StoreSink, P: LowerAll<I>, E: ExprPart>(
     lowerer: &Lowerer<P>,
     state: &mut BodyBuilder<I>,
     at: InFile<AstPtr>,
     awaited: &E,
-) -> Result<ExprId, StoreFault>
+) -> Result<ExprId, StoreError>
     requires { E.can (P.can lowerer.now.parts) awaited.now }
     ensures { LowersExpr (tree.await_expr at
-        (P.spot lowerer.now.parts).place.await_location
-        (E.read (P.spot lowerer.now.parts) awaited.now)) state.old result state.new }
+        (P.rctx lowerer.now.parts).place.await_location
+        (E.read (P.rctx lowerer.now.parts) awaited.now)) state.old result state.new }
 {
     let expr = awaited.lower(lowerer, state)?;
     state.report_await(at, lowerer.parts.place().await_location)?;

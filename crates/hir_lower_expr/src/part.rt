@@ -1,26 +1,26 @@
 //! What a part of the tree is to a form: something that is lowered. No tree is then among the types of the form.
 
 ghost use Rattle.std.specs.Prelude.{◌≡◌, Bool, None, is_some};
-ghost use Rattle.hir_env.specs.Answered.{Constant, Exprs, OptionArgs, OptionBlock, OptionExpr, OptionPat, OptionPath, OptionType};
+ghost use Rattle.hir_env.specs.ResolvedTree.{Constant, Exprs, OptionArgs, OptionBlock, OptionExpr, OptionPat, OptionPath, OptionType};
 ghost use Rattle.hir_env.specs.Conditions as of;
-ghost use Rattle.hir_env.specs.declared.place.Place.{Place as AtPlace};
-ghost use Rattle.hir_env.specs.Spot.{Spot};
+ghost use Rattle.hir_env.specs.declared.ctx.LowerCtx.{LowerCtx as AtCtx};
+ghost use Rattle.hir_env.specs.ResolveCtx.{ResolveCtx};
 ghost use Rattle.hir_env.specs.Targets.{head_pointer, resolves, target_of};
 ghost use Rattle.hir_env.specs.Whole.{arg_list_part, args_part, block_part, expr_part, exprs_part, pat_part};
 ghost use Rattle.hir_env.specs.Whole.{path_part, type_part};
-ghost use Rattle.hir_lower_form.specs.Nests.{Claims, Each, IfPresent};
-ghost use Rattle.hir_lower_form.specs.Methods.{LowersArgs, LowersBlockOpt, LowersConstant, LowersEach, LowersExprOpt, LowersIfPresent};
-ghost use Rattle.hir_lower_form.specs.Methods.{LowersPath, LowersTarget, LowersTop, LowersTypeIfPresent, LowersTypeOpt};
-ghost use Rattle.hir_lower_form.specs.Methods.{at_place, constant_at};
+ghost use Rattle.hir_lower_builder.specs.Nests.{Claims, Each, IfPresent};
+ghost use Rattle.hir_lower_builder.specs.Methods.{LowersArgs, LowersBlockOpt, LowersConstant, LowersEach, LowersExprOpt, LowersIfPresent};
+ghost use Rattle.hir_lower_builder.specs.Methods.{LowersPath, LowersTarget, LowersTop, LowersTypeIfPresent, LowersTypeOpt};
+ghost use Rattle.hir_lower_builder.specs.Methods.{at_place, constant_at};
 
 use crate::conditions::holds_let;
 use crate::fors::head_node;
 use hir_base::node::{AstPtr, InFile};
-use hir_env::place::Place;
-use hir_lower_form::builder::BodyBuilder;
-use hir_lower_form::parts::{LowerInto, LowerParts, Lowerer};
-use hir_lower_form::storing::Storing;
-use hir_store::fault::StoreFault;
+use hir_env::ctx::LowerCtx;
+use hir_lower_builder::builder::BodyBuilder;
+use hir_lower_builder::parts::{LowerAll, LowerParts, Lowerer};
+use hir_lower_builder::store_sink::StoreSink;
+use hir_store::error::StoreError;
 use hir_store::ids::{ExprId, PatId, TypeRefId};
 use hir_store::path::{GenericArgs, Path};
 use hir_store::type_ref::ConstRef;
@@ -31,12 +31,12 @@ pub trait ExprPart {
     ghost can: { Claims → Self → Type 0 };
 
     /// At another place than the form's.
-    ghost can_inside: { Claims → AtPlace → Self → Type 0 };
+    ghost can_inside: { Claims → AtCtx → Self → Type 0 };
 
-    /// As what is assigned to.
-    ghost can_aim: { Claims → AtPlace → Self → Type 0 };
+    /// As the assignee expression.
+    ghost can_assignee: { Claims → AtCtx → Self → Type 0 };
 
-    ghost read: { Spot → Self → OptionExpr };
+    ghost read: { ResolveCtx → Self → OptionExpr };
 
     ghost is_there: { Self → Bool };
 
@@ -45,49 +45,49 @@ pub trait ExprPart {
 
     /// The node of the expression, or this one where it is absent.
     fn node_or<P: LowerParts>(&self, lowerer: &Lowerer<P>, at: InFile<AstPtr>) -> InFile<AstPtr>
-        ensures { result ≡ head_pointer at (read (P.spot lowerer.now.parts) self.now) };
+        ensures { result ≡ head_pointer at (read (P.rctx lowerer.now.parts) self.now) };
 
     /// Whether it holds a `let`, as the condition of a `while`.
     fn holds_let<P: LowerParts>(&self, lowerer: &Lowerer<P>) -> bool
-        ensures { result ≡ of.holds_let (read (P.spot lowerer.now.parts) self.now) };
+        ensures { result ≡ of.holds_let (read (P.rctx lowerer.now.parts) self.now) };
 
     /// The expression, missing where it is absent or a condition disables it.
-    fn lower<I: Storing, P: LowerInto<I>>(
+    fn lower<I: StoreSink, P: LowerAll<I>>(
         &self,
         lowerer: &Lowerer<P>,
         state: &mut BodyBuilder<I>,
-    ) -> Result<ExprId, StoreFault>
+    ) -> Result<ExprId, StoreError>
         requires { can (P.can lowerer.now.parts) self.now }
-        ensures { LowersExprOpt (read (P.spot lowerer.now.parts) self.now) state.old result state.new };
+        ensures { LowersExprOpt (read (P.rctx lowerer.now.parts) self.now) state.old result state.new };
 
     /// The expression, none where it is absent, and missing where a condition disables it.
-    fn lower_if_present<I: Storing, P: LowerInto<I>>(
+    fn lower_if_present<I: StoreSink, P: LowerAll<I>>(
         &self,
         lowerer: &Lowerer<P>,
         state: &mut BodyBuilder<I>,
-    ) -> Result<Option<ExprId>, StoreFault>
+    ) -> Result<Option<ExprId>, StoreError>
         requires { can (P.can lowerer.now.parts) self.now }
-        ensures { LowersIfPresent (read (P.spot lowerer.now.parts) self.now) state.old result state.new };
+        ensures { LowersIfPresent (read (P.rctx lowerer.now.parts) self.now) state.old result state.new };
 
     /// The expression, read at this place, missing where it is absent or a condition disables it.
-    fn lower_inside<I: Storing, P: LowerInto<I>>(
+    fn lower_inside<I: StoreSink, P: LowerAll<I>>(
         &self,
         lowerer: &Lowerer<P>,
         state: &mut BodyBuilder<I>,
-        place: Place,
-    ) -> Result<ExprId, StoreFault>
+        place: LowerCtx,
+    ) -> Result<ExprId, StoreError>
         requires { can_inside (P.can lowerer.now.parts) place self.now }
-        ensures { LowersExprOpt (read (at_place (P.spot lowerer.now.parts) place) self.now) state.old result state.new };
+        ensures { LowersExprOpt (read (at_place (P.rctx lowerer.now.parts) place) self.now) state.old result state.new };
 
-    /// What is assigned to, missing where it is absent.
-    fn lower_aim<I: Storing, P: LowerInto<I>>(
+    /// The assignee expression, missing where it is absent.
+    fn lower_assignee<I: StoreSink, P: LowerAll<I>>(
         &self,
         lowerer: &Lowerer<P>,
         state: &mut BodyBuilder<I>,
-    ) -> Result<PatId, StoreFault>
-        requires { can_aim (P.can lowerer.now.parts) (P.spot lowerer.now.parts).place self.now }
-        ensures { let spot = P.spot lowerer.now.parts in
-            LowersTarget (target_of (resolves spot.answers spot.place) (read spot self.now)) state.old result state.new };
+    ) -> Result<PatId, StoreError>
+        requires { can_assignee (P.can lowerer.now.parts) (P.rctx lowerer.now.parts).place self.now }
+        ensures { let rctx = P.rctx lowerer.now.parts in
+            LowersTarget (target_of (resolves rctx.answers rctx.place) (read rctx self.now)) state.old result state.new };
 }
 
 impl ExprPart for Option<Boxed<ast::Expr>> {
@@ -95,7 +95,7 @@ impl ExprPart for Option<Boxed<ast::Expr>> {
 
     ghost can_inside = { λ claims place. IfPresent (claims.inner place) };
 
-    ghost can_aim = { λ claims place. IfPresent (claims.target place) };
+    ghost can_assignee = { λ claims place. IfPresent (claims.target place) };
 
     ghost read = { expr_part };
 
@@ -113,54 +113,54 @@ impl ExprPart for Option<Boxed<ast::Expr>> {
         holds_let(lowerer, self)
     }
 
-    fn lower<I: Storing, P: LowerInto<I>>(
+    fn lower<I: StoreSink, P: LowerAll<I>>(
         &self,
         lowerer: &Lowerer<P>,
         state: &mut BodyBuilder<I>,
-    ) -> Result<ExprId, StoreFault> {
+    ) -> Result<ExprId, StoreError> {
         lowerer.collect_expr_opt(state, self)
     }
 
-    fn lower_if_present<I: Storing, P: LowerInto<I>>(
+    fn lower_if_present<I: StoreSink, P: LowerAll<I>>(
         &self,
         lowerer: &Lowerer<P>,
         state: &mut BodyBuilder<I>,
-    ) -> Result<Option<ExprId>, StoreFault> {
+    ) -> Result<Option<ExprId>, StoreError> {
         lowerer.collect_expr_if_present(state, self)
     }
 
-    fn lower_inside<I: Storing, P: LowerInto<I>>(
+    fn lower_inside<I: StoreSink, P: LowerAll<I>>(
         &self,
         lowerer: &Lowerer<P>,
         state: &mut BodyBuilder<I>,
-        place: Place,
-    ) -> Result<ExprId, StoreFault> {
+        place: LowerCtx,
+    ) -> Result<ExprId, StoreError> {
         lowerer.collect_expr_opt_inside(state, place, self)
     }
 
-    fn lower_aim<I: Storing, P: LowerInto<I>>(
+    fn lower_assignee<I: StoreSink, P: LowerAll<I>>(
         &self,
         lowerer: &Lowerer<P>,
         state: &mut BodyBuilder<I>,
-    ) -> Result<PatId, StoreFault> {
+    ) -> Result<PatId, StoreError> {
         lowerer.parts.lower_target(state, self)
     }
 }
 
 /// The expression of a constant, which is there or isn't.
 pub trait ConstPart {
-    ghost can: { Claims → AtPlace → Self → Type 0 };
+    ghost can: { Claims → AtCtx → Self → Type 0 };
 
-    ghost read: { Spot → Self → Constant };
+    ghost read: { ResolveCtx → Self → Constant };
 
     /// The constant, which is missing where the expression is absent or a condition disables it.
-    fn lower<I: Storing, P: LowerInto<I>>(
+    fn lower<I: StoreSink, P: LowerAll<I>>(
         &self,
         lowerer: &Lowerer<P>,
         state: &mut BodyBuilder<I>,
-    ) -> Result<ConstRef, StoreFault>
-        requires { can (P.can lowerer.now.parts) (P.spot lowerer.now.parts).place self.now }
-        ensures { LowersConstant (read (P.spot lowerer.now.parts) self.now) state.old result state.new };
+    ) -> Result<ConstRef, StoreError>
+        requires { can (P.can lowerer.now.parts) (P.rctx lowerer.now.parts).place self.now }
+        ensures { LowersConstant (read (P.rctx lowerer.now.parts) self.now) state.old result state.new };
 }
 
 impl ConstPart for Option<Boxed<ast::Expr>> {
@@ -168,11 +168,11 @@ impl ConstPart for Option<Boxed<ast::Expr>> {
 
     ghost read = { constant_at };
 
-    fn lower<I: Storing, P: LowerInto<I>>(
+    fn lower<I: StoreSink, P: LowerAll<I>>(
         &self,
         lowerer: &Lowerer<P>,
         state: &mut BodyBuilder<I>,
-    ) -> Result<ConstRef, StoreFault> {
+    ) -> Result<ConstRef, StoreError> {
         lowerer
             .parts
             .collect_constant(state, lowerer.parts.place(), self)
@@ -183,16 +183,16 @@ impl ConstPart for Option<Boxed<ast::Expr>> {
 pub trait ListPart {
     ghost can: { Claims → Self → Type 0 };
 
-    ghost read: { Spot → Self → Exprs };
+    ghost read: { ResolveCtx → Self → Exprs };
 
     /// Those that no condition disables.
-    fn lower<I: Storing, P: LowerInto<I>>(
+    fn lower<I: StoreSink, P: LowerAll<I>>(
         &self,
         lowerer: &Lowerer<P>,
         state: &mut BodyBuilder<I>,
-    ) -> Result<Seq<ExprId>, StoreFault>
+    ) -> Result<Seq<ExprId>, StoreError>
         requires { can (P.can lowerer.now.parts) self.now }
-        ensures { LowersEach (read (P.spot lowerer.now.parts) self.now) state.old result state.new };
+        ensures { LowersEach (read (P.rctx lowerer.now.parts) self.now) state.old result state.new };
 }
 
 impl ListPart for Seq<ast::Expr> {
@@ -200,11 +200,11 @@ impl ListPart for Seq<ast::Expr> {
 
     ghost read = { exprs_part };
 
-    fn lower<I: Storing, P: LowerInto<I>>(
+    fn lower<I: StoreSink, P: LowerAll<I>>(
         &self,
         lowerer: &Lowerer<P>,
         state: &mut BodyBuilder<I>,
-    ) -> Result<Seq<ExprId>, StoreFault> {
+    ) -> Result<Seq<ExprId>, StoreError> {
         lowerer.collect_each(state, self.as_slice())
     }
 }
@@ -213,17 +213,17 @@ impl ListPart for Seq<ast::Expr> {
 pub trait ArgsPart {
     ghost can: { Claims → Self → Type 0 };
 
-    ghost read: { Spot → Self → Exprs };
+    ghost read: { ResolveCtx → Self → Exprs };
 
     ghost is_there: { Self → Bool };
 
-    fn lower<I: Storing, P: LowerInto<I>>(
+    fn lower<I: StoreSink, P: LowerAll<I>>(
         &self,
         lowerer: &Lowerer<P>,
         state: &mut BodyBuilder<I>,
-    ) -> Result<Seq<ExprId>, StoreFault>
+    ) -> Result<Seq<ExprId>, StoreError>
         requires { can (P.can lowerer.now.parts) self.now }
-        ensures { LowersEach (read (P.spot lowerer.now.parts) self.now) state.old result state.new };
+        ensures { LowersEach (read (P.rctx lowerer.now.parts) self.now) state.old result state.new };
 }
 
 impl ArgsPart for Option<Seq<ast::Expr>> {
@@ -233,29 +233,29 @@ impl ArgsPart for Option<Seq<ast::Expr>> {
 
     ghost is_there = { is_some };
 
-    fn lower<I: Storing, P: LowerInto<I>>(
+    fn lower<I: StoreSink, P: LowerAll<I>>(
         &self,
         lowerer: &Lowerer<P>,
         state: &mut BodyBuilder<I>,
-    ) -> Result<Seq<ExprId>, StoreFault> {
+    ) -> Result<Seq<ExprId>, StoreError> {
         lowerer.arguments(state, self)
     }
 }
 
 /// A block that is there or isn't, in a place where only a block may stand.
 pub trait BlockPart {
-    ghost can: { Claims → AtPlace → Self → Type 0 };
+    ghost can: { Claims → AtCtx → Self → Type 0 };
 
-    ghost read: { Spot → Self → OptionBlock };
+    ghost read: { ResolveCtx → Self → OptionBlock };
 
     /// The block, missing where it is absent.
-    fn lower<I: Storing, P: LowerInto<I>>(
+    fn lower<I: StoreSink, P: LowerAll<I>>(
         &self,
         lowerer: &Lowerer<P>,
         state: &mut BodyBuilder<I>,
-    ) -> Result<ExprId, StoreFault>
-        requires { can (P.can lowerer.now.parts) (P.spot lowerer.now.parts).place self.now }
-        ensures { LowersBlockOpt (read (P.spot lowerer.now.parts) self.now) state.old result state.new };
+    ) -> Result<ExprId, StoreError>
+        requires { can (P.can lowerer.now.parts) (P.rctx lowerer.now.parts).place self.now }
+        ensures { LowersBlockOpt (read (P.rctx lowerer.now.parts) self.now) state.old result state.new };
 }
 
 impl BlockPart for Option<Boxed<ast::BlockExpr>> {
@@ -263,29 +263,29 @@ impl BlockPart for Option<Boxed<ast::BlockExpr>> {
 
     ghost read = { block_part };
 
-    fn lower<I: Storing, P: LowerInto<I>>(
+    fn lower<I: StoreSink, P: LowerAll<I>>(
         &self,
         lowerer: &Lowerer<P>,
         state: &mut BodyBuilder<I>,
-    ) -> Result<ExprId, StoreFault> {
+    ) -> Result<ExprId, StoreError> {
         lowerer.collect_block_opt(state, self)
     }
 }
 
 /// A whole pattern that is there or isn't.
 pub trait PatPart {
-    ghost can: { Claims → AtPlace → Self → Type 0 };
+    ghost can: { Claims → AtCtx → Self → Type 0 };
 
-    ghost read: { Spot → Self → OptionPat };
+    ghost read: { ResolveCtx → Self → OptionPat };
 
     /// The pattern, missing where it is absent.
-    fn lower<I: Storing, P: LowerInto<I>>(
+    fn lower<I: StoreSink, P: LowerAll<I>>(
         &self,
         lowerer: &Lowerer<P>,
         state: &mut BodyBuilder<I>,
-    ) -> Result<PatId, StoreFault>
-        requires { can (P.can lowerer.now.parts) (P.spot lowerer.now.parts).place self.now }
-        ensures { LowersTop (read (P.spot lowerer.now.parts) self.now) state.old result state.new };
+    ) -> Result<PatId, StoreError>
+        requires { can (P.can lowerer.now.parts) (P.rctx lowerer.now.parts).place self.now }
+        ensures { LowersTop (read (P.rctx lowerer.now.parts) self.now) state.old result state.new };
 }
 
 impl PatPart for Option<Boxed<ast::Pat>> {
@@ -293,38 +293,38 @@ impl PatPart for Option<Boxed<ast::Pat>> {
 
     ghost read = { pat_part };
 
-    fn lower<I: Storing, P: LowerInto<I>>(
+    fn lower<I: StoreSink, P: LowerAll<I>>(
         &self,
         lowerer: &Lowerer<P>,
         state: &mut BodyBuilder<I>,
-    ) -> Result<PatId, StoreFault> {
+    ) -> Result<PatId, StoreError> {
         lowerer.parts.top_pat(state, self)
     }
 }
 
 /// A type that is there or isn't.
 pub trait TypePart {
-    ghost can: { Claims → AtPlace → Self → Type 0 };
+    ghost can: { Claims → AtCtx → Self → Type 0 };
 
-    ghost read: { Spot → Self → OptionType };
+    ghost read: { ResolveCtx → Self → OptionType };
 
     /// The type, an error where it is absent.
-    fn lower<I: Storing, P: LowerInto<I>>(
+    fn lower<I: StoreSink, P: LowerAll<I>>(
         &self,
         lowerer: &Lowerer<P>,
         state: &mut BodyBuilder<I>,
-    ) -> Result<TypeRefId, StoreFault>
-        requires { can (P.can lowerer.now.parts) (P.spot lowerer.now.parts).place self.now }
-        ensures { LowersTypeOpt None (read (P.spot lowerer.now.parts) self.now) state.old result state.new };
+    ) -> Result<TypeRefId, StoreError>
+        requires { can (P.can lowerer.now.parts) (P.rctx lowerer.now.parts).place self.now }
+        ensures { LowersTypeOpt None (read (P.rctx lowerer.now.parts) self.now) state.old result state.new };
 
     /// The type, none where it is absent.
-    fn lower_if_present<I: Storing, P: LowerInto<I>>(
+    fn lower_if_present<I: StoreSink, P: LowerAll<I>>(
         &self,
         lowerer: &Lowerer<P>,
         state: &mut BodyBuilder<I>,
-    ) -> Result<Option<TypeRefId>, StoreFault>
-        requires { can (P.can lowerer.now.parts) (P.spot lowerer.now.parts).place self.now }
-        ensures { LowersTypeIfPresent (read (P.spot lowerer.now.parts) self.now) state.old result state.new };
+    ) -> Result<Option<TypeRefId>, StoreError>
+        requires { can (P.can lowerer.now.parts) (P.rctx lowerer.now.parts).place self.now }
+        ensures { LowersTypeIfPresent (read (P.rctx lowerer.now.parts) self.now) state.old result state.new };
 }
 
 impl TypePart for Option<Boxed<ast::Type_>> {
@@ -332,37 +332,37 @@ impl TypePart for Option<Boxed<ast::Type_>> {
 
     ghost read = { type_part };
 
-    fn lower<I: Storing, P: LowerInto<I>>(
+    fn lower<I: StoreSink, P: LowerAll<I>>(
         &self,
         lowerer: &Lowerer<P>,
         state: &mut BodyBuilder<I>,
-    ) -> Result<TypeRefId, StoreFault> {
+    ) -> Result<TypeRefId, StoreError> {
         lowerer.type_or_error(state, lowerer.parts.place(), &None, self)
     }
 
-    fn lower_if_present<I: Storing, P: LowerInto<I>>(
+    fn lower_if_present<I: StoreSink, P: LowerAll<I>>(
         &self,
         lowerer: &Lowerer<P>,
         state: &mut BodyBuilder<I>,
-    ) -> Result<Option<TypeRefId>, StoreFault> {
+    ) -> Result<Option<TypeRefId>, StoreError> {
         lowerer.type_if_present(state, lowerer.parts.place(), self)
     }
 }
 
 /// A path that is there or isn't.
 pub trait PathPart {
-    ghost can: { Claims → AtPlace → Self → Type 0 };
+    ghost can: { Claims → AtCtx → Self → Type 0 };
 
-    ghost read: { Spot → Self → OptionPath };
+    ghost read: { ResolveCtx → Self → OptionPath };
 
     /// The path, none where it is absent or refused.
-    fn lower<I: Storing, P: LowerInto<I>>(
+    fn lower<I: StoreSink, P: LowerAll<I>>(
         &self,
         lowerer: &Lowerer<P>,
         state: &mut BodyBuilder<I>,
-    ) -> Result<Option<Path>, StoreFault>
-        requires { can (P.can lowerer.now.parts) (P.spot lowerer.now.parts).place self.now }
-        ensures { LowersPath (read (P.spot lowerer.now.parts) self.now) state.old result state.new };
+    ) -> Result<Option<Path>, StoreError>
+        requires { can (P.can lowerer.now.parts) (P.rctx lowerer.now.parts).place self.now }
+        ensures { LowersPath (read (P.rctx lowerer.now.parts) self.now) state.old result state.new };
 }
 
 impl PathPart for Option<Boxed<ast::Path>> {
@@ -370,28 +370,28 @@ impl PathPart for Option<Boxed<ast::Path>> {
 
     ghost read = { path_part };
 
-    fn lower<I: Storing, P: LowerInto<I>>(
+    fn lower<I: StoreSink, P: LowerAll<I>>(
         &self,
         lowerer: &Lowerer<P>,
         state: &mut BodyBuilder<I>,
-    ) -> Result<Option<Path>, StoreFault> {
+    ) -> Result<Option<Path>, StoreError> {
         lowerer.path_if_present(state, lowerer.parts.place(), self)
     }
 }
 
 /// Generic arguments, none where they are absent or yield nothing.
 pub trait GenericsPart {
-    ghost can: { Claims → AtPlace → Self → Type 0 };
+    ghost can: { Claims → AtCtx → Self → Type 0 };
 
-    ghost read: { Spot → Self → OptionArgs };
+    ghost read: { ResolveCtx → Self → OptionArgs };
 
-    fn lower<I: Storing, P: LowerInto<I>>(
+    fn lower<I: StoreSink, P: LowerAll<I>>(
         &self,
         lowerer: &Lowerer<P>,
         state: &mut BodyBuilder<I>,
-    ) -> Result<Option<GenericArgs>, StoreFault>
-        requires { can (P.can lowerer.now.parts) (P.spot lowerer.now.parts).place self.now }
-        ensures { LowersArgs (read (P.spot lowerer.now.parts) self.now) state.old result state.new };
+    ) -> Result<Option<GenericArgs>, StoreError>
+        requires { can (P.can lowerer.now.parts) (P.rctx lowerer.now.parts).place self.now }
+        ensures { LowersArgs (read (P.rctx lowerer.now.parts) self.now) state.old result state.new };
 }
 
 impl GenericsPart for Option<ast::GenericArgList> {
@@ -399,11 +399,11 @@ impl GenericsPart for Option<ast::GenericArgList> {
 
     ghost read = { arg_list_part };
 
-    fn lower<I: Storing, P: LowerInto<I>>(
+    fn lower<I: StoreSink, P: LowerAll<I>>(
         &self,
         lowerer: &Lowerer<P>,
         state: &mut BodyBuilder<I>,
-    ) -> Result<Option<GenericArgs>, StoreFault> {
+    ) -> Result<Option<GenericArgs>, StoreError> {
         lowerer.args_if_present(state, lowerer.parts.place(), self)
     }
 }

@@ -2,25 +2,25 @@
 
 ghost use Rattle.std.specs.Prelude.{◌≡◌, [], ◌∷◌, IfOk, Some, option_map};
 ghost use Rattle.hir_store.specs.Range.{HasExpr};
-ghost use Rattle.hir_env.specs.Answered as tree;
+ghost use Rattle.hir_env.specs.ResolvedTree as tree;
 ghost use Rattle.hir_env.specs.Answering as of;
 ghost use Rattle.hir_lower_scope.specs.Found.{try_of};
-ghost use Rattle.hir_lower_form.specs.Lower.{lower_part};
-ghost use Rattle.hir_lower_form.specs.Lowering.{HasTry, Lowers};
-ghost use Rattle.hir_lower_form.specs.Lowering as step;
-ghost use Rattle.hir_lower_form.specs.Made as spec;
-ghost use Rattle.hir_lower_form.specs.Methods.{HasArm, LowersExpr};
+ghost use Rattle.hir_lower_builder.specs.Lower.{lower_part};
+ghost use Rattle.hir_lower_builder.specs.Lowering.{HasTry, Lowers};
+ghost use Rattle.hir_lower_builder.specs.Lowering as step;
+ghost use Rattle.hir_lower_builder.specs.Made as spec;
+ghost use Rattle.hir_lower_builder.specs.Methods.{HasArm, LowersExpr};
 ghost use Rattle.hir_lower_expr.specs.Questions.{items_of};
 
 use crate::part::ExprPart;
 use crate::stored::store_match;
 use hir_base::node::{AstPtr, InFile};
 use hir_env::lang::LangItems;
-use hir_lower_form::builder::BodyBuilder;
-use hir_lower_form::parts::{LowerInto, Lowerer};
-use hir_lower_form::storing::Storing;
+use hir_lower_builder::builder::BodyBuilder;
+use hir_lower_builder::parts::{LowerAll, Lowerer};
+use hir_lower_builder::store_sink::StoreSink;
 use hir_lower_scope::labels::TryLabel;
-use hir_store::fault::StoreFault;
+use hir_store::error::StoreError;
 use hir_store::hir::{BindingAnnotation, Expr, MatchArm};
 use hir_store::ids::{ExprId, LangItemId};
 use hir_store::lists::push_arm;
@@ -64,36 +64,36 @@ fn conversion(items: QuestionItems, target: Option<TryLabel>) -> Option<LangItem
 }
 
 /// What leaves for the innermost `try`, or else returns.
-fn leaving<I: Storing>(
+fn leaving<I: StoreSink>(
     state: &mut BodyBuilder<I>,
     at: InFile<AstPtr>,
     target: Option<TryLabel>,
     value: ExprId,
-) -> Result<ExprId, StoreFault>
+) -> Result<ExprId, StoreError>
     requires target { HasTry state.old.stored (try_of target) }
     requires value { HasExpr state.old.stored value }
     ensures { let node = spec.leaving_node (try_of target) value in
-        Lowers HasExpr (step.alloc_made node (Some at)) state.old result state.new }
+        Lowers HasExpr (step.alloc_desugared node (Some at)) state.old result state.new }
 {
     let expr = Some(value);
     match target {
-        None => state.alloc_made(Expr::Return { expr }, Some(at)),
+        None => state.alloc_desugared(Expr::Return { expr }, Some(at)),
         Some(target) => {
             let label = Some(target.label);
-            state.alloc_made(Expr::Break { label, expr }, Some(at))
+            state.alloc_desugared(Expr::Break { label, expr }, Some(at))
         }
     }
 }
 
 /// The residual of this name is made a value, which leaves.
-#[tactic(auto, unfolding(hir_lower_form::specs::Made::residual_form))]
-fn residual<I: Storing>(
+#[tactic(auto, unfolding(hir_lower_builder::specs::Made::residual_form))]
+fn residual<I: StoreSink>(
     alloc: Global,
     state: &mut BodyBuilder<I>,
     at: InFile<AstPtr>,
     items: QuestionItems,
     number: u32,
-) -> Result<ExprId, StoreFault>
+) -> Result<ExprId, StoreError>
     ensures { Lowers HasExpr (spec.residual_form at (items_of items) number) state.old result state.new }
 {
     let name = state.made_path(alloc, at, number)?;
@@ -103,13 +103,13 @@ fn residual<I: Storing>(
 }
 
 /// The arm for a value, with which the form goes on.
-#[tactic(auto, unfolding(hir_lower_form::specs::Made::flow_arm_form))]
-fn value_arm<I: Storing>(
+#[tactic(auto, unfolding(hir_lower_builder::specs::Made::flow_arm_form))]
+fn value_arm<I: StoreSink>(
     alloc: Global,
     state: &mut BodyBuilder<I>,
     at: InFile<AstPtr>,
     item: LangItemId,
-) -> Result<MatchArm, StoreFault>
+) -> Result<MatchArm, StoreError>
     ensures { Lowers HasArm (spec.flow_arm_form item (spec.made_path_form at)) state.old result state.new }
 {
     let number = state.made_number()?;
@@ -121,13 +121,13 @@ fn value_arm<I: Storing>(
 }
 
 /// The arm for a residual, which leaves.
-#[tactic(auto, unfolding(hir_lower_form::specs::Made::flow_arm_form))]
-fn residual_arm<I: Storing>(
+#[tactic(auto, unfolding(hir_lower_builder::specs::Made::flow_arm_form))]
+fn residual_arm<I: StoreSink>(
     alloc: Global,
     state: &mut BodyBuilder<I>,
     at: InFile<AstPtr>,
     items: QuestionItems,
-) -> Result<MatchArm, StoreFault>
+) -> Result<MatchArm, StoreError>
     ensures { let taken = items_of items in
         Lowers HasArm (spec.flow_arm_form taken.breaks (spec.residual_form at taken)) state.old result state.new }
 {
@@ -155,16 +155,16 @@ pub(crate) fn two_arms(
 }
 
 /// The operand before what is made of it.
-#[tactic(auto, unfolding(hir_lower_form::specs::Made::question_form))]
-fn question_with<I: Storing, P: LowerInto<I>, E: ExprPart>(
+#[tactic(auto, unfolding(hir_lower_builder::specs::Made::question_form))]
+fn question_with<I: StoreSink, P: LowerAll<I>, E: ExprPart>(
     lowerer: &Lowerer<P>,
     state: &mut BodyBuilder<I>,
     at: InFile<AstPtr>,
     items: QuestionItems,
     operand: &E,
-) -> Result<ExprId, StoreFault>
+) -> Result<ExprId, StoreError>
     requires { E.can (P.can lowerer.now.parts) operand.now }
-    ensures { let part = E.read (P.spot lowerer.now.parts) operand.now in
+    ensures { let part = E.read (P.rctx lowerer.now.parts) operand.now in
         Lowers HasExpr (spec.question_form at (items_of items) (lower_part part)) state.old result state.new }
 {
     let operand = operand.lower(lowerer, state)?;
@@ -186,16 +186,16 @@ fn question_with<I: Storing, P: LowerInto<I>, E: ExprPart>(
 /// }
 /// ```
 #[inline(never)]
-pub fn question_form<I: Storing, P: LowerInto<I>, E: ExprPart>(
+pub fn question_form<I: StoreSink, P: LowerAll<I>, E: ExprPart>(
     lowerer: &Lowerer<P>,
     state: &mut BodyBuilder<I>,
     at: InFile<AstPtr>,
     operand: &E,
-) -> Result<ExprId, StoreFault>
+) -> Result<ExprId, StoreError>
     requires { E.can (P.can lowerer.now.parts) operand.now }
-    ensures { let spot = P.spot lowerer.now.parts in
-        let items = of.question_items spot.answers.lang_items in
-        LowersExpr (of.question_of items at (E.read spot operand.now)) state.old result state.new }
+    ensures { let rctx = P.rctx lowerer.now.parts in
+        let items = of.question_items rctx.answers.lang_items in
+        LowersExpr (of.question_of items at (E.read rctx operand.now)) state.old result state.new }
 {
     match question_items(lowerer.parts.lang_items()) {
         None => state.missing_expr(),

@@ -1,23 +1,23 @@
-//! Ranges, which are made as items of the language.
+//! Ranges, which are made as lang items.
 
 ghost use Rattle.std.specs.Prelude.{◌≡◌, ◌++◌, if◌then◌else◌, max, IfOk};
 ghost use Rattle.hir_store.specs.Arenas.{past, past_option};
 ghost use Rattle.hir_store.specs.Range.{HasExpr, HasExprOption, past_expr, past_field};
-ghost use Rattle.hir_env.specs.Answered as tree;
+ghost use Rattle.hir_env.specs.ResolvedTree as tree;
 ghost use Rattle.hir_env.specs.Ranges as of;
-ghost use Rattle.hir_lower_form.specs.Lowering.{Lowers};
-ghost use Rattle.hir_lower_form.specs.Ranges as spec;
-ghost use Rattle.hir_lower_form.specs.Methods.{LowersExpr};
+ghost use Rattle.hir_lower_builder.specs.Lowering.{Lowers};
+ghost use Rattle.hir_lower_builder.specs.Ranges as spec;
+ghost use Rattle.hir_lower_builder.specs.Methods.{LowersExpr};
 ghost use Rattle.hir_lower_expr.specs.Ranges.{made_form, name_of_end};
 
 use crate::part::ExprPart;
 use hir_base::node::{AstPtr, InFile};
 use hir_env::lang::LangItems;
-use hir_lower_form::builder::BodyBuilder;
-use hir_lower_form::parts::{LowerInto, LowerParts, Lowerer};
-use hir_lower_form::storing::Storing;
+use hir_lower_builder::builder::BodyBuilder;
+use hir_lower_builder::parts::{LowerAll, LowerParts, Lowerer};
+use hir_lower_builder::store_sink::StoreSink;
 use hir_lower_pat::items::item_expr;
-use hir_store::fault::StoreFault;
+use hir_store::error::StoreError;
 use hir_store::hir::{Expr, RecordLitField, RecordSpread};
 use hir_store::ids::{ExprId, LangItemId};
 use hir_store::lists::{push_field, push_id};
@@ -109,9 +109,9 @@ fn made_here<P: LowerParts, E: ExprPart>(
     start: &E,
     end: &E,
 ) -> Made
-    ensures { let spot = P.spot lowerer.now.parts in
-        let is_new = spot.answers.new_range spot.place.module_id in
-        made_form result ≡ of.range_form spot.answers.lang_items is_new op (E.is_there start.now) (E.is_there end.now) }
+    ensures { let rctx = P.rctx lowerer.now.parts in
+        let is_new = rctx.answers.new_range rctx.place.module_id in
+        made_form result ≡ of.range_form rctx.answers.lang_items is_new op (E.is_there start.now) (E.is_there end.now) }
 {
     let is_new = lowerer.parts.new_range();
     made_as(
@@ -176,14 +176,14 @@ fn operands(
 }
 
 /// What is called comes from no node.
-fn called<I: Storing>(
+fn called<I: StoreSink>(
     alloc: Global,
     state: &mut BodyBuilder<I>,
     at: InFile<AstPtr>,
     item: Option<LangItemId>,
     start: Option<ExprId>,
     end: Option<ExprId>,
-) -> Result<ExprId, StoreFault>
+) -> Result<ExprId, StoreError>
     requires start { HasExprOption state.old.stored start }
     requires end { HasExprOption state.old.stored end }
     ensures { Lowers HasExpr (spec.made_range at (tree.call_range item) start end) state.old result state.new }
@@ -195,14 +195,14 @@ fn called<I: Storing>(
 
 /// Without an item for its record a range is missing.
 #[inline(never)]
-fn made_of<I: Storing>(
+fn made_of<I: StoreSink>(
     alloc: Global,
     state: &mut BodyBuilder<I>,
     at: InFile<AstPtr>,
     made: Made,
     start: Option<ExprId>,
     end: Option<ExprId>,
-) -> Result<ExprId, StoreFault>
+) -> Result<ExprId, StoreError>
     requires start { HasExprOption state.old.stored start }
     requires end { HasExprOption state.old.stored end }
     ensures { Lowers HasExpr (spec.made_range at (made_form made) start end) state.old result state.new }
@@ -230,22 +230,22 @@ fn made_of<I: Storing>(
 /// RangeInclusiveNew(a, b)
 /// RangeInclusiveCopy { start: a, last: b }
 /// ```
-#[tactic(auto, unfolding(hir_lower_form::specs::Ranges::range_form))]
+#[tactic(auto, unfolding(hir_lower_builder::specs::Ranges::range_form))]
 #[inline(never)]
-pub fn range_form<I: Storing, P: LowerInto<I>, E: ExprPart>(
+pub fn range_form<I: StoreSink, P: LowerAll<I>, E: ExprPart>(
     lowerer: &Lowerer<P>,
     state: &mut BodyBuilder<I>,
     at: InFile<AstPtr>,
     op: Option<RangeOp>,
     start: &E,
     end: &E,
-) -> Result<ExprId, StoreFault>
+) -> Result<ExprId, StoreError>
     requires start { E.can (P.can lowerer.now.parts) start.now }
     requires end { E.can (P.can lowerer.now.parts) end.now }
-    ensures { let spot = P.spot lowerer.now.parts in
-        let is_new = spot.answers.new_range spot.place.module_id in
-        let form = of.range_form spot.answers.lang_items is_new op (E.is_there start.now) (E.is_there end.now) in
-        LowersExpr (tree.range_expr at form (E.read spot start.now) (E.read spot end.now)) state.old result state.new }
+    ensures { let rctx = P.rctx lowerer.now.parts in
+        let is_new = rctx.answers.new_range rctx.place.module_id in
+        let form = of.range_form rctx.answers.lang_items is_new op (E.is_there start.now) (E.is_there end.now) in
+        LowersExpr (tree.range_expr at form (E.read rctx start.now) (E.read rctx end.now)) state.old result state.new }
 {
     let low = start.lower_if_present(lowerer, state)?;
     let high = end.lower_if_present(lowerer, state)?;

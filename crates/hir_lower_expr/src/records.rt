@@ -5,41 +5,41 @@ ghost use Rattle.hir_syntax.specs.declared.ast.RecordExprField.{out-RecordExprFi
 ghost use Rattle.hir_syntax.specs.declared.ast.RecordExprFieldList.{out-RecordExprFieldList};
 ghost use Rattle.hir_store.specs.declared.name.Name.TheVariants as names;
 ghost use Rattle.hir_store.specs.Range.{HasFields, HasSpread};
-ghost use Rattle.hir_env.specs.Answered as tree;
-ghost use Rattle.hir_env.specs.declared.place.Place.{Place as AtPlace};
-ghost use Rattle.hir_env.specs.Spot.{Spot};
+ghost use Rattle.hir_env.specs.ResolvedTree as tree;
+ghost use Rattle.hir_env.specs.declared.ctx.LowerCtx.{LowerCtx as AtCtx};
+ghost use Rattle.hir_env.specs.ResolveCtx.{ResolveCtx};
 ghost use Rattle.hir_env.specs.Layers.{RecordReading};
-ghost use Rattle.hir_env.specs.Whole.{answered_field, answered_record, field_level, fields_part, record_level};
+ghost use Rattle.hir_env.specs.Whole.{resolved_field, resolved_record, field_level, fields_part, record_level};
 ghost use Rattle.hir_env.specs.Whole.{record_part, spread_part};
-ghost use Rattle.hir_lower_form.specs.Lowering.{Lowers};
-ghost use Rattle.hir_lower_form.specs.Lower as spec;
-ghost use Rattle.hir_lower_form.specs.Methods.{HasField, HasRecord, LowersExpr, record_at};
-ghost use Rattle.hir_lower_form.specs.Nests.{Claims, IfPresent, KidsField, KidsFields, KidsRecord};
+ghost use Rattle.hir_lower_builder.specs.Lowering.{Lowers};
+ghost use Rattle.hir_lower_builder.specs.Lower as spec;
+ghost use Rattle.hir_lower_builder.specs.Methods.{HasField, HasRecord, LowersExpr, record_at};
+ghost use Rattle.hir_lower_builder.specs.Nests.{Claims, IfPresent, KidsField, KidsFields, KidsRecord};
 
 use crate::kept::push_kept_field;
 use crate::part::{ExprPart, PathPart};
 use hir_base::node::{AstPtr, InFile};
-use hir_lower_form::builder::BodyBuilder;
-use hir_lower_form::parts::{LowerInto, Lowerer, site};
-use hir_lower_form::storing::Storing;
+use hir_lower_builder::builder::BodyBuilder;
+use hir_lower_builder::parts::{LowerAll, Lowerer, site};
+use hir_lower_builder::store_sink::StoreSink;
 use hir_store::diagnostics::ExpressionStoreDiagnostics;
-use hir_store::fault::StoreFault;
+use hir_store::error::StoreError;
 use hir_store::hir::{Expr, RecordLitField, RecordSpread};
 use hir_store::ids::ExprId;
 use hir_store::name::Name;
 use hir_syntax::{Boxed, Seq, ast};
 
 /// A field with a name, whose value leads to it.
-#[tactic(auto, unfolding(hir_lower_form::specs::Forms::field_form))]
-fn named_field<I: Storing, P: LowerInto<I>, E: ExprPart>(
+#[tactic(auto, unfolding(hir_lower_builder::specs::Forms::field_form))]
+fn named_field<I: StoreSink, P: LowerAll<I>, E: ExprPart>(
     lowerer: &Lowerer<P>,
     state: &mut BodyBuilder<I>,
     at: InFile<AstPtr>,
     name: &ast::Name,
     value: &E,
-) -> Result<Option<RecordLitField>, StoreFault>
+) -> Result<Option<RecordLitField>, StoreError>
     requires { E.can (P.can lowerer.now.parts) value.now }
-    ensures { let read = tree.named_field at (names.Text name.now.t) (E.read (P.spot lowerer.now.parts) value.now) in
+    ensures { let read = tree.named_field at (names.Text name.now.t) (E.read (P.rctx lowerer.now.parts) value.now) in
         Lowers HasField (spec.lower_field read) state.old result state.new }
 {
     let expr = value.lower(lowerer, state)?;
@@ -50,13 +50,13 @@ fn named_field<I: Storing, P: LowerInto<I>, E: ExprPart>(
 
 /// The field, none where a condition disables it or it has no name.
 #[inline(never)]
-fn field_form<I: Storing, P: LowerInto<I>>(
+fn field_form<I: StoreSink, P: LowerAll<I>>(
     lowerer: &Lowerer<P>,
     state: &mut BodyBuilder<I>,
     node: &ast::RecordExprField,
-) -> Result<Option<RecordLitField>, StoreFault>
-    requires { KidsField (P.can lowerer.now.parts) (P.spot lowerer.now.parts).place (out-RecordExprField node.now) }
-    ensures { Lowers HasField (spec.lower_field (field_level (P.spot lowerer.now.parts) node.now)) state.old result state.new }
+) -> Result<Option<RecordLitField>, StoreError>
+    requires { KidsField (P.can lowerer.now.parts) (P.rctx lowerer.now.parts).place (out-RecordExprField node.now) }
+    ensures { Lowers HasField (spec.lower_field (field_level (P.rctx lowerer.now.parts) node.now)) state.old result state.new }
 {
     let at = lowerer.pointer(node.id, node.range);
     match lowerer.parts.cfg(site(at)) {
@@ -71,24 +71,24 @@ fn field_form<I: Storing, P: LowerInto<I>>(
     }
 }
 
-fn field<I: Storing, P: LowerInto<I>>(
+fn field<I: StoreSink, P: LowerAll<I>>(
     lowerer: &Lowerer<P>,
     state: &mut BodyBuilder<I>,
     node: &ast::RecordExprField,
-) -> Result<Option<RecordLitField>, StoreFault>
-    requires { KidsField (P.can lowerer.now.parts) (P.spot lowerer.now.parts).place (out-RecordExprField node.now) }
-    ensures { Lowers HasField (spec.lower_field (answered_field (P.spot lowerer.now.parts) node.now)) state.old result state.new }
+) -> Result<Option<RecordLitField>, StoreError>
+    requires { KidsField (P.can lowerer.now.parts) (P.rctx lowerer.now.parts).place (out-RecordExprField node.now) }
+    ensures { Lowers HasField (spec.lower_field (resolved_field (P.rctx lowerer.now.parts) node.now)) state.old result state.new }
 {
     field_form(lowerer, state, node)
 }
 
-fn fields<I: Storing, P: LowerInto<I>>(
+fn fields<I: StoreSink, P: LowerAll<I>>(
     lowerer: &Lowerer<P>,
     state: &mut BodyBuilder<I>,
     mut left: &[ast::RecordExprField],
-) -> Result<Seq<RecordLitField>, StoreFault>
-    requires { KidsFields (P.can lowerer.now.parts) (P.spot lowerer.now.parts).place left.now }
-    ensures { Lowers HasFields (spec.lower_fields [] (fields_part (P.spot lowerer.now.parts) left.entry.now)) state.old result state.new }
+) -> Result<Seq<RecordLitField>, StoreError>
+    requires { KidsFields (P.can lowerer.now.parts) (P.rctx lowerer.now.parts).place left.now }
+    ensures { Lowers HasFields (spec.lower_fields [] (fields_part (P.rctx lowerer.now.parts) left.entry.now)) state.old result state.new }
 {
     let mut done = Seq::new(lowerer.alloc);
     while let [one, rest @ ..] = left {
@@ -100,14 +100,14 @@ fn fields<I: Storing, P: LowerInto<I>>(
 }
 
 /// What the other fields come from.
-fn spread<I: Storing, P: LowerInto<I>>(
+fn spread<I: StoreSink, P: LowerAll<I>>(
     lowerer: &Lowerer<P>,
     state: &mut BodyBuilder<I>,
     part: &Option<Boxed<ast::Expr>>,
     dots: bool,
-) -> Result<RecordSpread, StoreFault>
+) -> Result<RecordSpread, StoreError>
     requires { IfPresent (P.can lowerer.now.parts).expr part.now }
-    ensures { Lowers HasSpread (spec.lower_spread (spread_part (P.spot lowerer.now.parts) part.now dots)) state.old result state.new }
+    ensures { Lowers HasSpread (spec.lower_spread (spread_part (P.rctx lowerer.now.parts) part.now dots)) state.old result state.new }
 {
     match part {
         Some(part) => Ok(RecordSpread::Expr(lowerer.collect_expr(state, part.get())?)),
@@ -121,44 +121,44 @@ fn spread<I: Storing, P: LowerInto<I>>(
     }
 }
 
-#[tactic(auto, unfolding(hir_lower_form::specs::Forms::record_contents))]
-fn record_level_contents<I: Storing, P: LowerInto<I>>(
+#[tactic(auto, unfolding(hir_lower_builder::specs::Forms::record_contents))]
+fn record_level_contents<I: StoreSink, P: LowerAll<I>>(
     lowerer: &Lowerer<P>,
     state: &mut BodyBuilder<I>,
     node: &ast::RecordExprFieldList,
-) -> Result<(Seq<RecordLitField>, RecordSpread), StoreFault>
-    requires { KidsRecord (P.can lowerer.now.parts) (P.spot lowerer.now.parts).place (out-RecordExprFieldList node.now) }
-    ensures { Lowers HasRecord (record_at (record_level (P.spot lowerer.now.parts) node.now)) state.old result state.new }
+) -> Result<(Seq<RecordLitField>, RecordSpread), StoreError>
+    requires { KidsRecord (P.can lowerer.now.parts) (P.rctx lowerer.now.parts).place (out-RecordExprFieldList node.now) }
+    ensures { Lowers HasRecord (record_at (record_level (P.rctx lowerer.now.parts) node.now)) state.old result state.new }
 {
     let fields = fields(lowerer, state, node.fields.as_slice())?;
     let spread = spread(lowerer, state, &node.spread, node.dotdot)?;
     Ok((fields, spread))
 }
 
-fn listed<I: Storing, P: LowerInto<I>>(
+fn listed<I: StoreSink, P: LowerAll<I>>(
     lowerer: &Lowerer<P>,
     state: &mut BodyBuilder<I>,
     node: &ast::RecordExprFieldList,
-) -> Result<(Seq<RecordLitField>, RecordSpread), StoreFault>
-    requires { KidsRecord (P.can lowerer.now.parts) (P.spot lowerer.now.parts).place (out-RecordExprFieldList node.now) }
-    ensures { Lowers HasRecord (record_at (answered_record (P.spot lowerer.now.parts) node.now)) state.old result state.new }
+) -> Result<(Seq<RecordLitField>, RecordSpread), StoreError>
+    requires { KidsRecord (P.can lowerer.now.parts) (P.rctx lowerer.now.parts).place (out-RecordExprFieldList node.now) }
+    ensures { Lowers HasRecord (record_at (resolved_record (P.rctx lowerer.now.parts) node.now)) state.old result state.new }
 {
     record_level_contents(lowerer, state, node)
 }
 
 /// The fields of a record and what the others come from, nothing where no list is written.
 pub trait RecordPart {
-    ghost can: { Claims → AtPlace → Self → Type 0 };
+    ghost can: { Claims → AtCtx → Self → Type 0 };
 
-    ghost read: { Spot → Self → RecordReading };
+    ghost read: { ResolveCtx → Self → RecordReading };
 
-    fn lower<I: Storing, P: LowerInto<I>>(
+    fn lower<I: StoreSink, P: LowerAll<I>>(
         &self,
         lowerer: &Lowerer<P>,
         state: &mut BodyBuilder<I>,
-    ) -> Result<(Seq<RecordLitField>, RecordSpread), StoreFault>
-        requires { can (P.can lowerer.now.parts) (P.spot lowerer.now.parts).place self.now }
-        ensures { Lowers HasRecord (record_at (read (P.spot lowerer.now.parts) self.now)) state.old result state.new };
+    ) -> Result<(Seq<RecordLitField>, RecordSpread), StoreError>
+        requires { can (P.can lowerer.now.parts) (P.rctx lowerer.now.parts).place self.now }
+        ensures { Lowers HasRecord (record_at (read (P.rctx lowerer.now.parts) self.now)) state.old result state.new };
 }
 
 impl RecordPart for Option<ast::RecordExprFieldList> {
@@ -166,12 +166,12 @@ impl RecordPart for Option<ast::RecordExprFieldList> {
 
     ghost read = { record_part };
 
-    #[tactic(auto, unfolding(hir_lower_form::specs::Forms::record_contents))]
-    fn lower<I: Storing, P: LowerInto<I>>(
+    #[tactic(auto, unfolding(hir_lower_builder::specs::Forms::record_contents))]
+    fn lower<I: StoreSink, P: LowerAll<I>>(
         &self,
         lowerer: &Lowerer<P>,
         state: &mut BodyBuilder<I>,
-    ) -> Result<(Seq<RecordLitField>, RecordSpread), StoreFault> {
+    ) -> Result<(Seq<RecordLitField>, RecordSpread), StoreError> {
         match self {
             None => Ok((Seq::new(lowerer.alloc), RecordSpread::None)),
             Some(list) => listed(lowerer, state, list),
@@ -180,19 +180,19 @@ impl RecordPart for Option<ast::RecordExprFieldList> {
 }
 
 /// Where the path is absent or refused the record is missing, and nothing else of it is read.
-#[tactic(auto, unfolding(hir_lower_form::specs::Forms::record_form))]
+#[tactic(auto, unfolding(hir_lower_builder::specs::Forms::record_form))]
 #[inline(never)]
-pub fn record_form<I: Storing, P: LowerInto<I>, W: PathPart, R: RecordPart>(
+pub fn record_form<I: StoreSink, P: LowerAll<I>, W: PathPart, R: RecordPart>(
     lowerer: &Lowerer<P>,
     state: &mut BodyBuilder<I>,
     at: InFile<AstPtr>,
     path: &W,
     list: &R,
-) -> Result<ExprId, StoreFault>
-    requires path { W.can (P.can lowerer.now.parts) (P.spot lowerer.now.parts).place path.now }
-    requires list { R.can (P.can lowerer.now.parts) (P.spot lowerer.now.parts).place list.now }
-    ensures { let spot = P.spot lowerer.now.parts in let read = R.read spot list.now in
-        LowersExpr (tree.record_expr at (W.read spot path.now) read.head read.fields read.spread) state.old result state.new }
+) -> Result<ExprId, StoreError>
+    requires path { W.can (P.can lowerer.now.parts) (P.rctx lowerer.now.parts).place path.now }
+    requires list { R.can (P.can lowerer.now.parts) (P.rctx lowerer.now.parts).place list.now }
+    ensures { let rctx = P.rctx lowerer.now.parts in let read = R.read rctx list.now in
+        LowersExpr (tree.record_expr at (W.read rctx path.now) read.head read.fields read.spread) state.old result state.new }
 {
     let Some(path) = path.lower(lowerer, state)? else {
         return state.missing_expr();

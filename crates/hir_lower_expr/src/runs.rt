@@ -4,11 +4,11 @@
 ghost use Rattle.std.specs.Prelude.{◌≡◌};
 ghost use Rattle.hir_syntax.specs.declared.ast.StmtKind.{out-StmtKind};
 ghost use Rattle.hir_store.specs.Range.{HasStatements};
-ghost use Rattle.hir_env.specs.Spot.{site_of};
-ghost use Rattle.hir_env.specs.Whole.{answered_value, stmt_level};
-ghost use Rattle.hir_lower_form.specs.Calls.{found_of};
-ghost use Rattle.hir_lower_form.specs.Lowering.{HasFlag, Lowers};
-ghost use Rattle.hir_lower_form.specs.Nests.{Each, IfPresent, KidsStmt, KidsValue};
+ghost use Rattle.hir_env.specs.ResolveCtx.{site_of};
+ghost use Rattle.hir_env.specs.Whole.{resolved_value, stmt_level};
+ghost use Rattle.hir_lower_builder.specs.Calls.{found_of};
+ghost use Rattle.hir_lower_builder.specs.Lowering.{HasFlag, Lowers};
+ghost use Rattle.hir_lower_builder.specs.Nests.{Each, IfPresent, KidsStmt, KidsValue};
 ghost use Rattle.hir_lower_expr.specs.Runs as spec;
 ghost use Rattle.hir_lower_expr.specs.Runs.{MayEnter, StmtsBehind, StmtsExist, ValueBehind, ValueExists};
 
@@ -17,13 +17,13 @@ use crate::kept::push_kept_statement;
 use crate::lets::let_stmt;
 use crate::macros::{call_of, pointed};
 use hir_base::node::{AstPtr, InFile};
-use hir_env::place::Place;
-use hir_lower_form::builder::BodyBuilder;
-use hir_lower_form::calls::{Entered, enter_splice};
-use hir_lower_form::parts::{LowerInto, Lowerer, site};
-use hir_lower_form::storing::Storing;
+use hir_env::ctx::LowerCtx;
+use hir_lower_builder::builder::BodyBuilder;
+use hir_lower_builder::calls::{Entered, enter_splice};
+use hir_lower_builder::parts::{LowerAll, Lowerer, site};
+use hir_lower_builder::store_sink::StoreSink;
 use hir_store::diagnostics::ExpressionStoreDiagnostics;
-use hir_store::fault::StoreFault;
+use hir_store::error::StoreError;
 use hir_store::hir::Statement;
 use hir_store::ids::ExprId;
 use hir_store::lists::push_statement;
@@ -34,13 +34,13 @@ use std::collections::BTreeMap;
 
 /// Whether the node is enabled; the condition that disables it is told.
 #[inline(never)]
-fn is_enabled<I: Storing, P: LowerInto<I>>(
+fn is_enabled<I: StoreSink, P: LowerAll<I>>(
     lowerer: &Lowerer<P>,
     state: &mut BodyBuilder<I>,
     at: InFile<AstPtr>,
-) -> Result<bool, StoreFault>
-    ensures { let answer = (P.spot lowerer.now.parts).answers.cfg (site_of at) in
-        Lowers HasFlag (spec.enabled at answer) state.old result state.new }
+) -> Result<bool, StoreError>
+    ensures { let answer = (P.rctx lowerer.now.parts).answers.cfg (site_of at) in
+        Lowers HasFlag (spec.check_enabled at answer) state.old result state.new }
 {
     match lowerer.parts.cfg(site(at)) {
         Ok(()) => Ok(true),
@@ -70,7 +70,7 @@ pub(crate) struct Run {
 }
 
 /// The statements that a call stands for, and where they are read.
-fn stmts_of<'a>(entered: Entered<'a>) -> Option<(Place, &'a MacroStmts)>
+fn stmts_of<'a>(entered: Entered<'a>) -> Option<(LowerCtx, &'a MacroStmts)>
     ensures { spec.stmts_lent result ≡ spec.stmts_there (found_of entered.entry) }
 {
     match entered {
@@ -83,16 +83,16 @@ fn stmts_of<'a>(entered: Entered<'a>) -> Option<(Place, &'a MacroStmts)>
 /// the call's node leads, too.
 #[cycle(splice)]
 #[inline(never)]
-fn collect_call<I: Storing, P: LowerInto<I>>(
+fn collect_call<I: StoreSink, P: LowerAll<I>>(
     lowerer: &Lowerer<P>,
     state: &mut BodyBuilder<I>,
     run: &mut Run,
     at: InFile<AstPtr>,
     call: &MacroCall,
-) -> Result<Option<ExprId>, StoreFault>
-    requires part { MayEnter (P.can lowerer.now.parts) (P.spot lowerer.now.parts) call.now }
+) -> Result<Option<ExprId>, StoreError>
+    requires part { MayEnter (P.can lowerer.now.parts) (P.rctx lowerer.now.parts) call.now }
     requires done { HasStatements state.old.stored run.old.done }
-    ensures steps { ValueBehind (spec.spliced_call (P.spot lowerer.now.parts) at call.now)
+    ensures steps { ValueBehind (spec.spliced_call (P.rctx lowerer.now.parts) at call.now)
         run.old state.old result run.new state.new }
     ensures placed { ValueExists state.old result run.new.done state.new }
 {
@@ -108,15 +108,15 @@ fn collect_call<I: Storing, P: LowerInto<I>>(
 
 /// An expression in statement or tail place.
 #[cycle(splice)]
-fn collect_value<I: Storing, P: LowerInto<I>>(
+fn collect_value<I: StoreSink, P: LowerAll<I>>(
     lowerer: &Lowerer<P>,
     state: &mut BodyBuilder<I>,
     run: &mut Run,
     node: &ast::Expr,
-) -> Result<Option<ExprId>, StoreFault>
-    requires part { KidsValue (P.can lowerer.now.parts) (P.spot lowerer.now.parts).place node.now }
+) -> Result<Option<ExprId>, StoreError>
+    requires part { KidsValue (P.can lowerer.now.parts) (P.rctx lowerer.now.parts).place node.now }
     requires done { HasStatements state.old.stored run.old.done }
-    ensures steps { ValueBehind (λ d. answered_value (P.spot lowerer.now.parts) d node.now)
+    ensures steps { ValueBehind (λ d. resolved_value (P.rctx lowerer.now.parts) d node.now)
         run.old state.old result run.new state.new }
     ensures placed { ValueExists state.old result run.new.done state.new }
 {
@@ -135,15 +135,15 @@ fn collect_value<I: Storing, P: LowerInto<I>>(
 
 /// The same, none where it is absent.
 #[cycle(splice)]
-pub(crate) fn collect_value_opt<I: Storing, P: LowerInto<I>>(
+pub(crate) fn collect_value_opt<I: StoreSink, P: LowerAll<I>>(
     lowerer: &Lowerer<P>,
     state: &mut BodyBuilder<I>,
     run: &mut Run,
     part: &Option<Boxed<ast::Expr>>,
-) -> Result<Option<ExprId>, StoreFault>
-    requires part { IfPresent (KidsValue (P.can lowerer.now.parts) (P.spot lowerer.now.parts).place) part.now }
+) -> Result<Option<ExprId>, StoreError>
+    requires part { IfPresent (KidsValue (P.can lowerer.now.parts) (P.rctx lowerer.now.parts).place) part.now }
     requires done { HasStatements state.old.stored run.old.done }
-    ensures steps { ValueBehind (spec.value_part (P.spot lowerer.now.parts) part.now)
+    ensures steps { ValueBehind (spec.value_part (P.rctx lowerer.now.parts) part.now)
         run.old state.old result run.new state.new }
     ensures placed { ValueExists state.old result run.new.done state.new }
 {
@@ -155,15 +155,15 @@ pub(crate) fn collect_value_opt<I: Storing, P: LowerInto<I>>(
 
 /// What a statement stands for, behind those that are done.
 #[cycle(splice)]
-fn collect_stmt<I: Storing, P: LowerInto<I>>(
+fn collect_stmt<I: StoreSink, P: LowerAll<I>>(
     lowerer: &Lowerer<P>,
     state: &mut BodyBuilder<I>,
     run: &mut Run,
     node: &ast::Stmt,
-) -> Result<(), StoreFault>
-    requires parts { KidsStmt (P.can lowerer.now.parts) (P.spot lowerer.now.parts).place (out-StmtKind node.now.kind) }
+) -> Result<(), StoreError>
+    requires parts { KidsStmt (P.can lowerer.now.parts) (P.rctx lowerer.now.parts).place (out-StmtKind node.now.kind) }
     requires done { HasStatements state.old.stored run.old.done }
-    ensures steps { StmtsBehind (λ d. stmt_level (P.spot lowerer.now.parts) d node.now)
+    ensures steps { StmtsBehind (λ d. stmt_level (P.rctx lowerer.now.parts) d node.now)
         run.old state.old result run.new state.new }
     ensures placed { StmtsExist state.old result run.new.done state.new }
 {
@@ -205,15 +205,15 @@ fn collect_stmt<I: Storing, P: LowerInto<I>>(
 
 /// Statements, behind those that are done.
 #[cycle(splice)]
-pub(crate) fn collect_run<I: Storing, P: LowerInto<I>>(
+pub(crate) fn collect_run<I: StoreSink, P: LowerAll<I>>(
     lowerer: &Lowerer<P>,
     state: &mut BodyBuilder<I>,
     run: &mut Run,
     mut all: &[ast::Stmt],
-) -> Result<(), StoreFault>
-    requires parts { Each (λ s. KidsStmt (P.can lowerer.now.parts) (P.spot lowerer.now.parts).place (out-StmtKind s.kind)) all.now }
+) -> Result<(), StoreError>
+    requires parts { Each (λ s. KidsStmt (P.can lowerer.now.parts) (P.rctx lowerer.now.parts).place (out-StmtKind s.kind)) all.now }
     requires done { HasStatements state.old.stored run.old.done }
-    ensures steps { StmtsBehind (spec.run_part (P.spot lowerer.now.parts) all.entry.now)
+    ensures steps { StmtsBehind (spec.run_part (P.rctx lowerer.now.parts) all.entry.now)
         run.old state.old result run.new state.new }
     ensures placed { StmtsExist state.old result run.new.done state.new }
 {

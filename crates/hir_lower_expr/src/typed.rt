@@ -2,20 +2,20 @@
 
 ghost use Rattle.std.specs.Prelude.{◌≡◌, IfOk, Some};
 ghost use Rattle.hir_store.specs.Range.{HasExpr, HasPathOption};
-ghost use Rattle.hir_env.specs.Answered as tree;
+ghost use Rattle.hir_env.specs.ResolvedTree as tree;
 ghost use Rattle.hir_env.specs.Answering.{names_of, site_of};
-ghost use Rattle.hir_lower_form.specs.Forms.{path_or_missing};
-ghost use Rattle.hir_lower_form.specs.Lowering as step;
-ghost use Rattle.hir_lower_form.specs.Lowering.{Lowers};
-ghost use Rattle.hir_lower_form.specs.Methods.{LowersExpr};
+ghost use Rattle.hir_lower_builder.specs.Forms.{path_or_missing};
+ghost use Rattle.hir_lower_builder.specs.Lowering as step;
+ghost use Rattle.hir_lower_builder.specs.Lowering.{Lowers};
+ghost use Rattle.hir_lower_builder.specs.Methods.{LowersExpr};
 
 use crate::part::{ExprPart, PathPart, TypePart};
 use hir_base::node::{AstPtr, InFile};
-use hir_lower_form::builder::BodyBuilder;
-use hir_lower_form::names::{names_of, path_expr};
-use hir_lower_form::parts::{LowerInto, Lowerer, site};
-use hir_lower_form::storing::Storing;
-use hir_store::fault::StoreFault;
+use hir_lower_builder::builder::BodyBuilder;
+use hir_lower_builder::names::{names_of, path_expr};
+use hir_lower_builder::parts::{LowerAll, Lowerer, site};
+use hir_lower_builder::store_sink::StoreSink;
+use hir_store::error::StoreError;
 use hir_store::hir::Expr;
 use hir_store::ids::{ExprId, HygieneId};
 use hir_store::name::Name;
@@ -24,12 +24,12 @@ use hir_syntax::{Seq, ast};
 use std::alloc::{AllocError, Global};
 
 /// What was read of a path, which is missing where it is absent or refused.
-fn read_path_expr<I: Storing>(
+fn read_path_expr<I: StoreSink>(
     state: &mut BodyBuilder<I>,
     at: InFile<AstPtr>,
     path: Option<Path>,
     hygiene: HygieneId,
-) -> Result<ExprId, StoreFault>
+) -> Result<ExprId, StoreError>
     requires { HasPathOption state.old.stored path }
     ensures { Lowers HasExpr (step.alloc_expr (path_or_missing hygiene path) (Some at)) state.old result state.new }
 {
@@ -37,17 +37,17 @@ fn read_path_expr<I: Storing>(
 }
 
 /// A path that is absent or refused is missing.
-#[tactic(auto, unfolding(hir_lower_form::specs::Forms::path_form))]
+#[tactic(auto, unfolding(hir_lower_builder::specs::Forms::path_form))]
 #[inline(never)]
-pub fn path_form<I: Storing, P: LowerInto<I>, W: PathPart>(
+pub fn path_form<I: StoreSink, P: LowerAll<I>, W: PathPart>(
     lowerer: &Lowerer<P>,
     state: &mut BodyBuilder<I>,
     at: InFile<AstPtr>,
     path: &W,
-) -> Result<ExprId, StoreFault>
-    requires { W.can (P.can lowerer.now.parts) (P.spot lowerer.now.parts).place path.now }
-    ensures { let spot = P.spot lowerer.now.parts in
-        LowersExpr (tree.path_expr at (W.read spot path.now) (spot.answers.hygiene (site_of at))) state.old result state.new }
+) -> Result<ExprId, StoreError>
+    requires { W.can (P.can lowerer.now.parts) (P.rctx lowerer.now.parts).place path.now }
+    ensures { let rctx = P.rctx lowerer.now.parts in
+        LowersExpr (tree.path_expr at (W.read rctx path.now) (rctx.answers.hygiene (site_of at))) state.old result state.new }
 {
     let hygiene = lowerer.parts.hygiene(site(at));
     let path = path.lower(lowerer, state)?;
@@ -55,19 +55,19 @@ pub fn path_form<I: Storing, P: LowerInto<I>, W: PathPart>(
 }
 
 /// A cast: what is cast, then the type.
-#[tactic(auto, unfolding(hir_lower_form::specs::Forms::cast_form))]
+#[tactic(auto, unfolding(hir_lower_builder::specs::Forms::cast_form))]
 #[inline(never)]
-pub fn cast_form<I: Storing, P: LowerInto<I>, E: ExprPart, T: TypePart>(
+pub fn cast_form<I: StoreSink, P: LowerAll<I>, E: ExprPart, T: TypePart>(
     lowerer: &Lowerer<P>,
     state: &mut BodyBuilder<I>,
     at: InFile<AstPtr>,
     operand: &E,
     ty: &T,
-) -> Result<ExprId, StoreFault>
+) -> Result<ExprId, StoreError>
     requires operand { E.can (P.can lowerer.now.parts) operand.now }
-    requires ty { T.can (P.can lowerer.now.parts) (P.spot lowerer.now.parts).place ty.now }
-    ensures { let spot = P.spot lowerer.now.parts in
-        LowersExpr (tree.cast_expr at (E.read spot operand.now) (T.read spot ty.now)) state.old result state.new }
+    requires ty { T.can (P.can lowerer.now.parts) (P.rctx lowerer.now.parts).place ty.now }
+    ensures { let rctx = P.rctx lowerer.now.parts in
+        LowersExpr (tree.cast_expr at (E.read rctx operand.now) (T.read rctx ty.now)) state.old result state.new }
 {
     let expr = operand.lower(lowerer, state)?;
     let type_ref = ty.lower(lowerer, state)?;
@@ -82,17 +82,17 @@ fn field_names(alloc: Global, names: &Seq<ast::Name>) -> Result<Seq<Name>, Alloc
 }
 
 /// `offset_of!`: the type, then the names of the fields.
-#[tactic(auto, unfolding(hir_lower_form::specs::Forms::offset_of_form))]
+#[tactic(auto, unfolding(hir_lower_builder::specs::Forms::offset_of_form))]
 #[inline(never)]
-pub fn offset_of_form<I: Storing, P: LowerInto<I>, T: TypePart>(
+pub fn offset_of_form<I: StoreSink, P: LowerAll<I>, T: TypePart>(
     lowerer: &Lowerer<P>,
     state: &mut BodyBuilder<I>,
     at: InFile<AstPtr>,
     ty: &T,
     names: &Seq<ast::Name>,
-) -> Result<ExprId, StoreFault>
-    requires { T.can (P.can lowerer.now.parts) (P.spot lowerer.now.parts).place ty.now }
-    ensures { let container = T.read (P.spot lowerer.now.parts) ty.now in
+) -> Result<ExprId, StoreError>
+    requires { T.can (P.can lowerer.now.parts) (P.rctx lowerer.now.parts).place ty.now }
+    ensures { let container = T.read (P.rctx lowerer.now.parts) ty.now in
         LowersExpr (tree.offset_of_expr at container (names_of names.now)) state.old result state.new }
 {
     let container = ty.lower(lowerer, state)?;

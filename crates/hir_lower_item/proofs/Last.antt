@@ -5,8 +5,8 @@ use Rattle.hir_store.specs.Past.{Past}
 use Rattle.hir_store.specs.Range.{Grows, Has}
 use Rattle.hir_store.specs.Stored.{Stored}
 use Rattle.hir_store.specs.declared.type_ref.TraitRef.{TraitRef}
-use Rattle.hir_lower_form.specs.Builder.{Builder}
-use Rattle.hir_lower_form.specs.Lowering.{Lowers, pure}
+use Rattle.hir_lower_builder.specs.Builder.{Builder}
+use Rattle.hir_lower_builder.specs.Lowering.{Lowers, pure}
 use Rattle.hir_lower_item.specs.Has.{HasTraitOption}
 
 -- what is answered without a further step

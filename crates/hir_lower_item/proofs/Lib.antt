@@ -1,6 +1,6 @@
 mod GivenPaths
 mod Here
 mod ItemHere
+mod Kinded
 mod Last
-mod Sets
 mod Steps

@@ -3,9 +3,9 @@ use Rattle.std.proofs.Common.{arith, ◌≡◌, ◌∙◌, ap, Ok, Err}
 use Rattle.std.specs.Prelude.{IsErrAnd}
 use Rattle.hir_store.specs.Stored.{Stored}
 use Rattle.hir_store.specs.Range.{Grows}
-use Rattle.hir_store.specs.declared.fault.StoreFault.{StoreFault}
-use Rattle.hir_lower_form.specs.Builder.{Builder}
-use Rattle.hir_lower_form.specs.Lowering.{Checked, go_on, Lowering, Lowers, ◌>>=◌}
+use Rattle.hir_store.specs.declared.error.StoreError.{StoreError}
+use Rattle.hir_lower_builder.specs.Builder.{Builder}
+use Rattle.hir_lower_builder.specs.Lowering.{Checked, go_on, Lowering, Lowers, ◌>>=◌}
 
 grows_on : (a b c : Stored) → Grows a b → Grows b c → Grows a c
 grows_on a b c g h = (omega arith, omega arith, omega arith, omega arith, omega arith, omega arith)
@@ -23,6 +23,6 @@ then_lowers HasA HasB p f b c d a (Err e) h k = λ other. let y = k other in (be
 
 -- what the first steps are refused for
 pub refused_first : {A B : Type 0} (HasA : Stored → A → Type 0) (HasB : Stored → B → Type 0) (p : Lowering A) (f : A → Lowering B)
-    (b c : Builder) (e : StoreFault) (r : Checked B) → IsErrAnd r (λ x. x ≡ e) → Lowers HasA p b (Err e) c → Lowers HasB (p >>= f) b r c
+    (b c : Builder) (e : StoreError) (r : Checked B) → IsErrAnd r (λ x. x ≡ e) → Lowers HasA p b (Err e) c → Lowers HasB (p >>= f) b r c
 refused_first HasA HasB p f b c e (Ok x) is h = absurd is
 refused_first HasA HasB p f b c e (Err x) is h = rw is (λ other. let y = h other in (behind p f b (Err e) c y.0, y.1))

@@ -6,7 +6,7 @@ use Rattle.hir_store.specs.declared.hir.CoroutineKind.{CoroutineKind}
 use Rattle.hir_store.specs.declared.hir.Mutability.{Mutability}
 use Rattle.hir_store.specs.declared.ids.CfgId.{CfgId}
 use Rattle.hir_store.specs.declared.name.Name.{Name}
-use Rattle.hir_env.specs.Answered.{Binder, Bounds, Constant, Lifetime, OptionRet, OptionType, Type_}
+use Rattle.hir_env.specs.ResolvedTree.{Binder, Bounds, Constant, Lifetime, OptionRet, OptionType, Type_}
 use Rattle.hir_env.specs.TypeLayers.{PathTypeReading}
 
 -- a generic parameter

@@ -1,24 +1,21 @@
 -- When a lifetime parameter is given: with the other arguments of its item, or at each call.
-use Rattle.std.specs.Prelude.{◌≡◌, Bool, not, ◌&&◌, ◌||◌, List, [], ◌∷◌, ◌++◌, map, min}
-use Rattle.std.specs.BTreeSet.{BTreeSet, contains}
-use Rattle.hir_store.specs.NameOrder.{name_cmp}
+use Rattle.std.specs.Prelude.{map, min}
 use Rattle.hir_store.specs.Params.{early_among}
 use Rattle.hir_store.specs.declared.generics.GenericParams.{GenericParams}
 use Rattle.hir_store.specs.declared.generics.LifetimeParamData.{LifetimeParamData}
-use Rattle.hir_store.specs.declared.name.Name.{Name}
-use Rattle.hir_sets.specs.Kinds.{LifetimeSets, among, bound_kind, kind_by}
-use Rattle.hir_lower_form.specs.declared.generics.GenericLists.{GenericLists}
-use Rattle.hir_lower_form.specs.declared.generics.NamedLifetimes.{NamedLifetimes}
-use Rattle.hir_lower_form.specs.declared.generics.Notes.{Notes}
+use Rattle.hir_lower_scope.specs.declared.lifetimes.NamedLifetimeStore.{NamedLifetimeStore}
+use Rattle.spec_data.specs.Kinds.{LifetimeSets, bound_kind}
+use Rattle.hir_lower_builder.specs.declared.generics.GenericLists.{GenericLists}
+use Rattle.hir_lower_builder.specs.declared.generics.SideOutput.{SideOutput}
 
-abbrev pub named_sets : NamedLifetimes → LifetimeSets
-named_sets n = record { bounds = n.bounds; input = n.input; output = n.output }
+abbrev pub named_sets : NamedLifetimeStore → LifetimeSets
+named_sets n = record { bounds = n.where_clause; input = n.constrained_by_input; output = n.output }
 
-abbrev pub of_kind : NamedLifetimes → LifetimeParamData → LifetimeParamData
+abbrev pub of_kind : NamedLifetimeStore → LifetimeParamData → LifetimeParamData
 of_kind n l = record l { bound_type = bound_kind (named_sets n) l.name }
 
 -- those of a function
-abbrev pub of_kinds : Notes → GenericLists
+abbrev pub of_kinds : SideOutput → GenericLists
 of_kinds n = record n.generics { lifetimes = map (of_kind n.named) n.generics.lifetimes }
 
 -- what is answered of the parameters in the making
@@ -29,26 +26,3 @@ finished g = record {
   lifetimes = g.lifetimes;
   where_predicates = g.where_predicates;
 }
-
--- by sets
-
--- the set has just these
-abbrev pub Has : BTreeSet Name → List Name → Type 0
-Has s names = (n : Name) → contains name_cmp s n ≡ among n names
-
-pub record Holds (bounds input output : BTreeSet Name) (named : NamedLifetimes) : Type 0 where
-  pub in_bounds : Has bounds named.bounds
-  pub in_input : Has input named.input
-  pub in_output : Has output named.output
-
-module _ (bounds input output : BTreeSet Name) where
-  abbrev pub early_in : Name → Bool
-  early_in n = contains name_cmp bounds n || (contains name_cmp output n && not (contains name_cmp input n))
-
-  abbrev pub kind_in : LifetimeParamData → LifetimeParamData
-  kind_in l = record l { bound_type = kind_by (early_in l.name) }
-
-  -- behind those that are done
-  abbrev pub kinds_in : List LifetimeParamData → List LifetimeParamData → List LifetimeParamData
-  kinds_in done [] = done
-  kinds_in done (l ∷ ls) = kinds_in (done ++ kind_in l ∷ []) ls

@@ -30,16 +30,16 @@ use Rattle.hir_store.specs.declared.type_ref.TypeBound.{TypeBound}
 use Rattle.hir_store.specs.declared.type_ref.TypeBound.TheVariants as bound
 use Rattle.hir_store.specs.declared.type_ref.TypeRef.{TypeRef}
 use Rattle.hir_store.specs.declared.type_ref.TypeRef.TheVariants as type
-use Rattle.hir_env.specs.declared.place.LifetimeScope.TheVariants as scope
-use Rattle.hir_env.specs.Answered as tree
-use Rattle.hir_env.specs.Answered.{Binder, Bounds, Constant, Lifetime, OptionRet, OptionType}
+use Rattle.hir_env.specs.declared.ctx.LifetimeScope.TheVariants as scope
+use Rattle.hir_env.specs.ResolvedTree as tree
+use Rattle.hir_env.specs.ResolvedTree.{Binder, Bounds, Constant, Lifetime, OptionRet, OptionType}
 use Rattle.hir_env.specs.TypeLayers.{PathTypeReading}
-use Rattle.hir_lower_form.specs.Generics.{naming}
-use Rattle.hir_lower_form.specs.Lowering.{Lowering, ◌>>=◌, ◌>>◌, pure, add_lifetime_param, add_param, add_predicate, alloc_lifetime}
-use Rattle.hir_lower_form.specs.Lowering.{alloc_type, note_down, param_type, report}
-use Rattle.hir_lower_form.specs.Lower.{lower_bound, lower_bounds, lower_constant, lower_path, lower_type, present_type}
-use Rattle.hir_lower_form.specs.Lower.{push_some, some, type_part}
-use Rattle.hir_lower_form.specs.Types.{lower_lifetime, lower_lifetime_option, unit_type}
+use Rattle.hir_lower_builder.specs.Generics.{naming}
+use Rattle.hir_lower_builder.specs.Lowering.{Lowering, ◌>>=◌, ◌>>◌, pure, add_lifetime_param, add_param, add_predicate, alloc_lifetime}
+use Rattle.hir_lower_builder.specs.Lowering.{alloc_type, track_down, param_type, report}
+use Rattle.hir_lower_builder.specs.Lower.{lower_bound, lower_bounds, lower_constant, lower_path, lower_type, present_type}
+use Rattle.hir_lower_builder.specs.Lower.{push_some, some, type_part}
+use Rattle.hir_lower_builder.specs.Types.{lower_lifetime, lower_lifetime_option, unit_type}
 use Rattle.hir_lower_item.specs.Items.{Param, disabled_param, type_param, const_param, lifetime_param, nameless_param}
 use Rattle.hir_lower_item.specs.Items.{Predicate, of_type, of_lifetime, of_nothing, Generics}
 use Rattle.hir_lower_item.specs.Items.{Receiver, no_receiver, disabled_receiver, typed_receiver, self_receiver}
@@ -61,7 +61,7 @@ ask binder (bounded.Type_ t) (bound.Lifetime l) = add_predicate (predicate.TypeB
 ask binder (bounded.Lifetime text l) (bound.Path p m) = pure tt
 ask binder (bounded.Lifetime text l) (bound.ForLifetime ns p) = pure tt
 ask binder (bounded.Lifetime text l) (bound.Lifetime m) = do
-  note_down (naming scope.Bound text)
+  track_down (naming scope.Bound text)
   add_predicate (predicate.Lifetime l m)
 
 -- each bound, and what becomes of it before the next

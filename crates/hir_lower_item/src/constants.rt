@@ -2,19 +2,19 @@
 
 ghost use Rattle.std.specs.Prelude.{◌≡◌, IfOk, None, option_map};
 ghost use Rattle.hir_env.specs.Answering.{name_or_missing};
-ghost use Rattle.hir_env.specs.Whole.{answered_constant, type_part};
-ghost use Rattle.hir_lower_form.specs.Lowering.{Lowers};
-ghost use Rattle.hir_lower_form.specs.Methods.{LowersTypeIfPresent, LowersTypeOpt};
-ghost use Rattle.hir_lower_handlers.specs.Spots.{spot_at};
+ghost use Rattle.hir_env.specs.Whole.{resolved_constant, type_part};
+ghost use Rattle.hir_lower_builder.specs.Lowering.{Lowers};
+ghost use Rattle.hir_lower_builder.specs.Methods.{LowersTypeIfPresent, LowersTypeOpt};
+ghost use Rattle.hir_lower_callbacks.specs.ResolveCtxs.{rctx_at};
 ghost use Rattle.hir_lower_item.specs.Has.{HasConstOption};
 ghost use Rattle.hir_lower_item.specs.Lower.{present_constant};
 
+use hir_env::ctx::LowerCtx;
 use hir_env::env::LowerEnv;
-use hir_env::place::Place;
-use hir_lower_form::builder::StoredBody;
-use hir_lower_knot::items::lower_constant;
-use hir_lower_knot::knot::lower_type_node;
-use hir_store::fault::StoreFault;
+use hir_lower_builder::builder::StoredBody;
+use hir_lower_recursion::items::lower_constant;
+use hir_lower_recursion::knot::lower_type_node;
+use hir_store::error::StoreError;
 use hir_store::ids::TypeRefId;
 use hir_store::name::Name;
 use hir_store::type_ref::ConstRef;
@@ -35,11 +35,11 @@ pub(crate) fn stored_name(name: &Option<ast::Name>) -> Result<Name, AllocError>
 pub(crate) fn type_or_error<E: LowerEnv>(
     alloc: Global,
     env: &E,
-    place: Place,
+    place: LowerCtx,
     state: &mut StoredBody,
     part: &Option<Boxed<ast::Type_>>,
-) -> Result<TypeRefId, StoreFault>
-    ensures { LowersTypeOpt None (type_part (spot_at (E.answers env.now) place) part.now) state.old result state.new }
+) -> Result<TypeRefId, StoreError>
+    ensures { LowersTypeOpt None (type_part (rctx_at (E.answers env.now) place) part.now) state.old result state.new }
 {
     match part {
         None => state.error_type(),
@@ -51,11 +51,11 @@ pub(crate) fn type_or_error<E: LowerEnv>(
 pub(crate) fn type_if_present<E: LowerEnv>(
     alloc: Global,
     env: &E,
-    place: Place,
+    place: LowerCtx,
     state: &mut StoredBody,
     part: &Option<Boxed<ast::Type_>>,
-) -> Result<Option<TypeRefId>, StoreFault>
-    ensures { LowersTypeIfPresent (type_part (spot_at (E.answers env.now) place) part.now) state.old result state.new }
+) -> Result<Option<TypeRefId>, StoreError>
+    ensures { LowersTypeIfPresent (type_part (rctx_at (E.answers env.now) place) part.now) state.old result state.new }
 {
     match part {
         None => Ok(None),
@@ -67,12 +67,12 @@ pub(crate) fn type_if_present<E: LowerEnv>(
 pub(crate) fn constant_if_present<E: LowerEnv>(
     alloc: Global,
     env: &E,
-    place: Place,
+    place: LowerCtx,
     state: &mut StoredBody,
     part: &Option<ast::ConstArg>,
-) -> Result<Option<ConstRef>, StoreFault>
-    ensures { let at = spot_at (E.answers env.now) place in
-        Lowers HasConstOption (present_constant (option_map (answered_constant at) part.now)) state.old result state.new }
+) -> Result<Option<ConstRef>, StoreError>
+    ensures { let at = rctx_at (E.answers env.now) place in
+        Lowers HasConstOption (present_constant (option_map (resolved_constant at) part.now)) state.old result state.new }
 {
     match part {
         None => Ok(None),

@@ -3,11 +3,11 @@
 ghost use Rattle.std.specs.Prelude.{◌≡◌, IfOk};
 ghost use Rattle.hir_store.specs.Range.{HasType, HasTypeOption};
 ghost use Rattle.hir_env.specs.Answering.{coroutine_kind as kind_of};
-ghost use Rattle.hir_lower_form.specs.Lowering.{Lowers};
+ghost use Rattle.hir_lower_builder.specs.Lowering.{Lowers};
 ghost use Rattle.hir_lower_item.specs.Lower as spec;
 
-use hir_lower_form::builder::StoredBody;
-use hir_store::fault::StoreFault;
+use hir_lower_builder::builder::StoredBody;
+use hir_store::error::StoreError;
 use hir_store::hir::CoroutineKind;
 use hir_store::ids::TypeRefId;
 use hir_store::name::Name;
@@ -90,7 +90,7 @@ fn or_unit(
     alloc: Global,
     state: &mut StoredBody,
     ret: Option<TypeRefId>,
-) -> Result<TypeRefId, StoreFault>
+) -> Result<TypeRefId, StoreError>
     requires { HasTypeOption state.old.stored ret }
     ensures { Lowers HasType (spec.or_unit ret) state.old result state.new }
 {
@@ -106,7 +106,7 @@ fn coroutine_form(
     state: &mut StoredBody,
     kind: CoroutineKind,
     ret: Option<TypeRefId>,
-) -> Result<TypeRefId, StoreFault>
+) -> Result<TypeRefId, StoreError>
     requires { HasTypeOption state.old.stored ret }
     ensures { Lowers HasType (spec.coroutine_form kind ret) state.old result state.new }
 {
@@ -124,7 +124,7 @@ pub(crate) fn answer_form(
     state: &mut StoredBody,
     kind: Option<CoroutineKind>,
     ret: Option<TypeRefId>,
-) -> Result<Option<TypeRefId>, StoreFault>
+) -> Result<Option<TypeRefId>, StoreError>
     requires { HasTypeOption state.old.stored ret }
     ensures { Lowers HasTypeOption (spec.answer_form kind ret) state.old result state.new }
 {

@@ -5,8 +5,8 @@ ghost use Rattle.hir_store.specs.Range.{HasLifetimeOption, HasNone, HasType, Has
 ghost use Rattle.hir_env.specs.Answering.{coroutine_kind as kind_of};
 ghost use Rattle.hir_env.specs.Paths.{lifetime_of};
 ghost use Rattle.hir_env.specs.Whole.{ret_part};
-ghost use Rattle.hir_lower_form.specs.Lowering.{Lowers};
-ghost use Rattle.hir_lower_handlers.specs.Spots.{spot_at};
+ghost use Rattle.hir_lower_builder.specs.Lowering.{Lowers};
+ghost use Rattle.hir_lower_callbacks.specs.ResolveCtxs.{rctx_at};
 ghost use Rattle.hir_lower_item.specs.Answering as of;
 ghost use Rattle.hir_lower_item.specs.Answering.{at_place};
 ghost use Rattle.hir_lower_item.specs.Has.{HasSignature};
@@ -16,21 +16,21 @@ use crate::constants::type_or_error;
 use crate::coroutines::{answer_form, coroutine_kind};
 use crate::params::generics;
 use crate::places::{in_arguments, in_output, pointer};
+use hir_env::ctx::LowerCtx;
 use hir_env::env::LowerEnv;
-use hir_env::place::Place;
-use hir_items::ast::Fn;
-use hir_lower_form::builder::StoredBody;
-use hir_lower_form::parts::site;
-use hir_lower_knot::knot::lower_type_node;
+use hir_lower_builder::builder::StoredBody;
+use hir_lower_builder::parts::site;
+use hir_lower_recursion::knot::lower_type_node;
 use hir_lower_type::lifetimes::lifetime_if_present;
 use hir_store::diagnostics::ExpressionStoreDiagnostics;
-use hir_store::fault::StoreFault;
+use hir_store::error::StoreError;
 use hir_store::hir::Mutability;
 use hir_store::ids::{GenericDefId, LifetimeRefId, TypeRefId};
 use hir_store::lists::push_type;
 use hir_store::name::Name;
 use hir_store::path::{ModPath, Path, PathKind};
 use hir_store::type_ref::{RefType, TypeRef};
+use hir_syntax::items::Fn;
 use hir_syntax::{Seq, Text, ast};
 use std::alloc::{AllocError, Global};
 
@@ -64,7 +64,7 @@ fn borrowed(
     mutability: Option<Mutability>,
     ty: TypeRefId,
     lifetime: Option<LifetimeRefId>,
-) -> Result<TypeRefId, StoreFault>
+) -> Result<TypeRefId, StoreError>
     requires ty { HasType state.old.stored ty }
     requires lifetime { HasLifetimeOption state.old.stored lifetime }
     ensures { Lowers HasType (spec.borrowed mutability ty lifetime) state.old result state.new }
@@ -85,11 +85,11 @@ fn borrowed(
 /// The type of a `self` without a written one. Its lifetime is read at this place.
 fn self_form(
     alloc: Global,
-    place: Place,
+    place: LowerCtx,
     state: &mut StoredBody,
     mutability: Option<Mutability>,
     written: &Option<ast::Lifetime>,
-) -> Result<TypeRefId, StoreFault>
+) -> Result<TypeRefId, StoreError>
     ensures { Lowers HasType (spec.self_form mutability (option_map (lifetime_of place) written.now)) state.old result state.new }
 {
     let path = self_path(alloc)?;
@@ -113,11 +113,11 @@ fn borrow(is_ref: bool, is_mut: bool) -> Option<Mutability>
 fn kept_receiver<E: LowerEnv>(
     alloc: Global,
     env: &E,
-    place: Place,
+    place: LowerCtx,
     state: &mut StoredBody,
     node: &ast::SelfParam,
-) -> Result<Option<TypeRefId>, StoreFault>
-    ensures { let read = of.receiver_of (spot_at (E.answers env.now) place) node.now.ty node.now.ref_ node.now.mut_ node.now.lifetime in
+) -> Result<Option<TypeRefId>, StoreError>
+    ensures { let read = of.receiver_of (rctx_at (E.answers env.now) place) node.now.ty node.now.ref_ node.now.mut_ node.now.lifetime in
         Lowers HasTypeOption (spec.lower_receiver read) state.old result state.new }
 {
     match &node.ty {
@@ -133,13 +133,13 @@ fn kept_receiver<E: LowerEnv>(
 fn receiver<E: LowerEnv>(
     alloc: Global,
     env: &E,
-    place: Place,
+    place: LowerCtx,
     state: &mut StoredBody,
     def: GenericDefId,
     part: &Option<ast::SelfParam>,
-) -> Result<Option<TypeRefId>, StoreFault>
-    ensures { let at = spot_at (E.answers env.now) place in
-        Lowers HasTypeOption (spec.lower_receiver (of.answered_receiver at def part.now)) state.old result state.new }
+) -> Result<Option<TypeRefId>, StoreError>
+    ensures { let at = rctx_at (E.answers env.now) place in
+        Lowers HasTypeOption (spec.lower_receiver (of.resolved_receiver at def part.now)) state.old result state.new }
 {
     match part {
         None => Ok(None),
@@ -159,12 +159,12 @@ fn receiver<E: LowerEnv>(
 /// Whether `self` is there and kept.
 fn is_received<E: LowerEnv>(
     env: &E,
-    place: Place,
+    place: LowerCtx,
     def: GenericDefId,
     part: &Option<ast::SelfParam>,
 ) -> bool
-    ensures { let at = spot_at (E.answers env.now) place in
-        result ≡ spec.is_received (of.answered_receiver at def part.now) }
+    ensures { let at = rctx_at (E.answers env.now) place in
+        result ≡ spec.is_received (of.resolved_receiver at def part.now) }
 {
     match part {
         None => false,
@@ -175,13 +175,13 @@ fn is_received<E: LowerEnv>(
 /// Reports a parameter that a condition disables.
 fn report_inactive<E: LowerEnv>(
     env: &E,
-    place: Place,
+    place: LowerCtx,
     state: &mut StoredBody,
     def: GenericDefId,
     node: &ast::Param,
-) -> Result<(), StoreFault>
-    ensures { let at = spot_at (E.answers env.now) place in
-        Lowers HasNone (spec.report_inactive (of.answered_argument at def node.now)) state.old result state.new }
+) -> Result<(), StoreError>
+    ensures { let at = rctx_at (E.answers env.now) place in
+        Lowers HasNone (spec.report_inactive (of.resolved_argument at def node.now)) state.old result state.new }
 {
     let at = pointer(place, node.id, node.range);
     match env.cfg(site(at)) {
@@ -192,12 +192,12 @@ fn report_inactive<E: LowerEnv>(
 
 fn report_each<E: LowerEnv>(
     env: &E,
-    place: Place,
+    place: LowerCtx,
     state: &mut StoredBody,
     def: GenericDefId,
     mut left: &[ast::Param],
-) -> Result<(), StoreFault>
-    ensures { let at = spot_at (E.answers env.now) place in
+) -> Result<(), StoreError>
+    ensures { let at = rctx_at (E.answers env.now) place in
         Lowers HasNone (spec.report_each (of.arguments_of at def left.entry.now)) state.old result state.new }
 {
     while let [one, rest @ ..] = left {
@@ -211,13 +211,13 @@ fn report_each<E: LowerEnv>(
 fn argument_type<E: LowerEnv>(
     alloc: Global,
     env: &E,
-    place: Place,
+    place: LowerCtx,
     state: &mut StoredBody,
     def: GenericDefId,
     node: &ast::Param,
-) -> Result<Option<TypeRefId>, StoreFault>
-    ensures { let at = spot_at (E.answers env.now) place in
-        Lowers HasTypeOption (spec.argument_type (of.answered_argument at def node.now)) state.old result state.new }
+) -> Result<Option<TypeRefId>, StoreError>
+    ensures { let at = rctx_at (E.answers env.now) place in
+        Lowers HasTypeOption (spec.argument_type (of.resolved_argument at def node.now)) state.old result state.new }
 {
     match env.cfg(site(pointer(place, node.id, node.range))) {
         Err(_) => Ok(None),
@@ -236,14 +236,14 @@ fn argument_type<E: LowerEnv>(
 fn argument_types<E: LowerEnv>(
     alloc: Global,
     env: &E,
-    place: Place,
+    place: LowerCtx,
     state: &mut StoredBody,
     def: GenericDefId,
     mut done: Seq<TypeRefId>,
     mut left: &[ast::Param],
-) -> Result<Seq<TypeRefId>, StoreFault>
+) -> Result<Seq<TypeRefId>, StoreError>
     requires { HasTypes state.old.stored done }
-    ensures { let at = spot_at (E.answers env.now) place in
+    ensures { let at = rctx_at (E.answers env.now) place in
         Lowers HasTypes (spec.argument_types done (of.arguments_of at def left.entry.now)) state.old result state.new }
 {
     while let [one, rest @ ..] = left {
@@ -256,9 +256,9 @@ fn argument_types<E: LowerEnv>(
 }
 
 /// Whether a parameter is kept and variadic.
-fn is_variadic<E: LowerEnv>(env: &E, place: Place, def: GenericDefId, node: &ast::Param) -> bool
-    ensures { let at = spot_at (E.answers env.now) place in
-        result ≡ spec.is_variadic (of.answered_argument at def node.now) }
+fn is_variadic<E: LowerEnv>(env: &E, place: LowerCtx, def: GenericDefId, node: &ast::Param) -> bool
+    ensures { let at = rctx_at (E.answers env.now) place in
+        result ≡ spec.is_variadic (of.resolved_argument at def node.now) }
 {
     match env.cfg(site(pointer(place, node.id, node.range))) {
         Err(_) => false,
@@ -269,11 +269,11 @@ fn is_variadic<E: LowerEnv>(env: &E, place: Place, def: GenericDefId, node: &ast
 /// Whether one that is kept is variadic.
 fn any_variadic<E: LowerEnv>(
     env: &E,
-    place: Place,
+    place: LowerCtx,
     def: GenericDefId,
     mut left: &[ast::Param],
 ) -> bool
-    ensures { let at = spot_at (E.answers env.now) place in
+    ensures { let at = rctx_at (E.answers env.now) place in
         result ≡ spec.any_variadic (of.arguments_of at def left.entry.now) }
 {
     while let [one, rest @ ..] = left {
@@ -289,13 +289,13 @@ fn any_variadic<E: LowerEnv>(
 fn listed_types<E: LowerEnv>(
     alloc: Global,
     env: &E,
-    place: Place,
+    place: LowerCtx,
     state: &mut StoredBody,
     def: GenericDefId,
     list: &ast::ParamList,
-) -> Result<Seq<TypeRefId>, StoreFault>
-    ensures { let at = spot_at (E.answers env.now) place in
-        let read = spec.input_types (of.answered_receiver at def list.now.self_) (of.arguments_of at def list.now.params) in
+) -> Result<Seq<TypeRefId>, StoreError>
+    ensures { let at = rctx_at (E.answers env.now) place in
+        let read = spec.input_types (of.resolved_receiver at def list.now.self_) (of.arguments_of at def list.now.params) in
         Lowers HasTypes read state.old result state.new }
 {
     let mut types = Seq::new(alloc);
@@ -311,12 +311,12 @@ fn listed_types<E: LowerEnv>(
 fn input_types<E: LowerEnv>(
     alloc: Global,
     env: &E,
-    place: Place,
+    place: LowerCtx,
     state: &mut StoredBody,
     def: GenericDefId,
     list: &Option<ast::ParamList>,
-) -> Result<Seq<TypeRefId>, StoreFault>
-    ensures { let at = spot_at (E.answers env.now) place in
+) -> Result<Seq<TypeRefId>, StoreError>
+    ensures { let at = rctx_at (E.answers env.now) place in
         let read = spec.input_types (of.receiver_part at def list.now) (of.arguments_part at def list.now) in
         Lowers HasTypes read state.old result state.new }
 {
@@ -330,11 +330,11 @@ fn input_types<E: LowerEnv>(
 fn written_ret<E: LowerEnv>(
     alloc: Global,
     env: &E,
-    place: Place,
+    place: LowerCtx,
     state: &mut StoredBody,
     ret: &Option<ast::RetType>,
-) -> Result<Option<TypeRefId>, StoreFault>
-    ensures { let at = spot_at (E.answers env.now) place in
+) -> Result<Option<TypeRefId>, StoreError>
+    ensures { let at = rctx_at (E.answers env.now) place in
         Lowers HasTypeOption (spec.present_ret (ret_part at ret.now)) state.old result state.new }
 {
     match ret {
@@ -347,11 +347,11 @@ fn written_ret<E: LowerEnv>(
 fn output<E: LowerEnv>(
     alloc: Global,
     env: &E,
-    place: Place,
+    place: LowerCtx,
     state: &mut StoredBody,
     node: &Fn,
-) -> Result<Option<TypeRefId>, StoreFault>
-    ensures { let at = at_place of.in_output (spot_at (E.answers env.now) place) in
+) -> Result<Option<TypeRefId>, StoreError>
+    ensures { let at = at_place of.in_output (rctx_at (E.answers env.now) place) in
         let read = spec.output_type (kind_of node.now.async_ node.now.gen_) (ret_part at node.now.ret) in
         Lowers HasTypeOption read state.old result state.new }
 {
@@ -363,11 +363,11 @@ fn output<E: LowerEnv>(
 /// Whether `self` is one of the parameters that are kept.
 fn has_self<E: LowerEnv>(
     env: &E,
-    place: Place,
+    place: LowerCtx,
     def: GenericDefId,
     list: &Option<ast::ParamList>,
 ) -> bool
-    ensures { let at = spot_at (E.answers env.now) place in
+    ensures { let at = rctx_at (E.answers env.now) place in
         result ≡ spec.is_received (of.receiver_part at def list.now) }
 {
     match list {
@@ -379,11 +379,11 @@ fn has_self<E: LowerEnv>(
 /// Whether one of the parameters that are kept is variadic.
 fn has_variadic<E: LowerEnv>(
     env: &E,
-    place: Place,
+    place: LowerCtx,
     def: GenericDefId,
     list: &Option<ast::ParamList>,
 ) -> bool
-    ensures { let at = spot_at (E.answers env.now) place in
+    ensures { let at = rctx_at (E.answers env.now) place in
         result ≡ spec.any_variadic (of.arguments_part at def list.now) }
 {
     match list {
@@ -396,13 +396,13 @@ fn has_variadic<E: LowerEnv>(
 pub fn function<E: LowerEnv>(
     alloc: Global,
     env: &E,
-    place: Place,
+    place: LowerCtx,
     state: &mut StoredBody,
     def: GenericDefId,
     node: &Fn,
-) -> Result<Signature, StoreFault>
-    ensures { let at = spot_at (E.answers env.now) place in
-        Lowers HasSignature (spec.lower_function def (of.answered_function at def node.now)) state.old result state.new }
+) -> Result<Signature, StoreError>
+    ensures { let at = rctx_at (E.answers env.now) place in
+        Lowers HasSignature (spec.lower_function def (of.resolved_function at def node.now)) state.old result state.new }
 {
     let list = node.generics.as_ref();
     let clause = node.where_.as_ref();

@@ -3,9 +3,9 @@
 ghost use Rattle.std.specs.Prelude.{◌≡◌, []};
 ghost use Rattle.hir_store.specs.Range.{HasBounds, HasNone, HasPathOption};
 ghost use Rattle.hir_env.specs.Whole.{bounds_part};
-ghost use Rattle.hir_lower_form.specs.Lower.{lower_bounds};
-ghost use Rattle.hir_lower_form.specs.Lowering.{Lowers};
-ghost use Rattle.hir_lower_handlers.specs.Spots.{spot_at};
+ghost use Rattle.hir_lower_builder.specs.Lower.{lower_bounds};
+ghost use Rattle.hir_lower_builder.specs.Lowering.{Lowers};
+ghost use Rattle.hir_lower_callbacks.specs.ResolveCtxs.{rctx_at};
 ghost use Rattle.hir_lower_item.specs.Answering as of;
 ghost use Rattle.hir_lower_item.specs.Answering.{at_place};
 ghost use Rattle.hir_lower_item.specs.Has.{HasAlias, HasImpl, HasTraitOption};
@@ -15,20 +15,20 @@ use crate::constants::{type_if_present, type_or_error};
 use crate::params::{generics, type_param_form};
 use crate::places::{in_opaque, in_plain, in_self_bounds, pointer};
 use hir_base::node::{AstPtr, InFile};
+use hir_env::ctx::LowerCtx;
 use hir_env::env::LowerEnv;
-use hir_env::place::Place;
-use hir_items::ast::{Impl, Trait, TypeAlias};
-use hir_lower_form::builder::StoredBody;
-use hir_lower_knot::items::lower_bound;
-use hir_lower_knot::knot::lower_path;
+use hir_lower_builder::builder::StoredBody;
+use hir_lower_recursion::items::lower_bound;
+use hir_lower_recursion::knot::lower_path;
 use hir_store::diagnostics::{ExpressionStoreDiagnostics, MissingBodyItemKind};
-use hir_store::fault::StoreFault;
+use hir_store::error::StoreError;
 use hir_store::generics::TypeParamProvenance;
 use hir_store::ids::{GenericDefId, ItemContainerId, TypeRefId};
 use hir_store::lists::push_bound;
 use hir_store::name::Name;
 use hir_store::path::Path;
 use hir_store::type_ref::{TraitRef, TypeBound, TypeRef};
+use hir_syntax::items::{Impl, Trait, TypeAlias};
 use hir_syntax::{Boxed, Seq, Text, ast};
 use std::alloc::Global;
 
@@ -36,12 +36,12 @@ use std::alloc::Global;
 fn self_param<E: LowerEnv>(
     alloc: Global,
     env: &E,
-    place: Place,
+    place: LowerCtx,
     state: &mut StoredBody,
     def: GenericDefId,
     bounds: &Seq<ast::TypeBound>,
-) -> Result<(), StoreFault>
-    ensures { let at = at_place (of.in_self_bounds def) (spot_at (E.answers env.now) place) in
+) -> Result<(), StoreError>
+    ensures { let at = at_place (of.in_self_bounds def) (rctx_at (E.answers env.now) place) in
         Lowers HasNone (spec.self_param def (bounds_part at bounds.now)) state.old result state.new }
 {
     let name = Name::Text(Text::new(alloc, "Self")?);
@@ -54,13 +54,13 @@ fn self_param<E: LowerEnv>(
 pub fn trait_form<E: LowerEnv>(
     alloc: Global,
     env: &E,
-    place: Place,
+    place: LowerCtx,
     state: &mut StoredBody,
     def: GenericDefId,
     node: &Trait,
-) -> Result<(), StoreFault>
-    ensures { let at = spot_at (E.answers env.now) place in
-        Lowers HasNone (spec.lower_trait def (of.answered_trait at def node.now)) state.old result state.new }
+) -> Result<(), StoreError>
+    ensures { let at = rctx_at (E.answers env.now) place in
+        Lowers HasNone (spec.lower_trait def (of.resolved_trait at def node.now)) state.old result state.new }
 {
     let params = node.generics.as_ref();
     let asked = node.where_.as_ref();
@@ -73,7 +73,7 @@ fn stored_trait(
     state: &mut StoredBody,
     at: InFile<AstPtr>,
     path: Option<Path>,
-) -> Result<Option<TraitRef>, StoreFault>
+) -> Result<Option<TraitRef>, StoreError>
     requires { HasPathOption state.old.stored path }
     ensures { Lowers HasTraitOption (spec.stored_trait at path) state.old result state.new }
 {
@@ -90,11 +90,11 @@ fn stored_trait(
 fn trait_ref<E: LowerEnv>(
     alloc: Global,
     env: &E,
-    place: Place,
+    place: LowerCtx,
     state: &mut StoredBody,
     part: &Option<Boxed<ast::Type_>>,
-) -> Result<Option<TraitRef>, StoreFault>
-    ensures { let at = spot_at (E.answers env.now) place in
+) -> Result<Option<TraitRef>, StoreError>
+    ensures { let at = rctx_at (E.answers env.now) place in
         Lowers HasTraitOption (spec.lower_trait_ref (of.trait_of at part.now)) state.old result state.new }
 {
     let Some(part) = part else {
@@ -115,13 +115,13 @@ fn trait_ref<E: LowerEnv>(
 pub fn impl_form<E: LowerEnv>(
     alloc: Global,
     env: &E,
-    place: Place,
+    place: LowerCtx,
     state: &mut StoredBody,
     def: GenericDefId,
     node: &Impl,
-) -> Result<(TypeRefId, Option<TraitRef>), StoreFault>
-    ensures { let at = spot_at (E.answers env.now) place in
-        Lowers HasImpl (spec.lower_impl def (of.answered_impl at def node.now)) state.old result state.new }
+) -> Result<(TypeRefId, Option<TraitRef>), StoreError>
+    ensures { let at = rctx_at (E.answers env.now) place in
+        Lowers HasImpl (spec.lower_impl def (of.resolved_impl at def node.now)) state.old result state.new }
 {
     let self_type = type_or_error(alloc, env, in_plain(place), state, &node.self_ty)?;
     let trait_ = trait_ref(alloc, env, in_opaque(place), state, &node.trait_)?;
@@ -134,11 +134,11 @@ pub fn impl_form<E: LowerEnv>(
 fn each_bound<E: LowerEnv>(
     alloc: Global,
     env: &E,
-    place: Place,
+    place: LowerCtx,
     state: &mut StoredBody,
     mut left: &[ast::TypeBound],
-) -> Result<Seq<TypeBound>, StoreFault>
-    ensures { let at = spot_at (E.answers env.now) place in
+) -> Result<Seq<TypeBound>, StoreError>
+    ensures { let at = rctx_at (E.answers env.now) place in
         Lowers HasBounds (lower_bounds [] (bounds_part at left.entry.now)) state.old result state.new }
 {
     let mut done = Seq::new(alloc);
@@ -167,7 +167,7 @@ fn report_missing(
     node: InFile<AstPtr>,
     container: ItemContainerId,
     ty: &Option<Boxed<ast::Type_>>,
-) -> Result<(), StoreFault>
+) -> Result<(), StoreError>
     ensures { let fault = of.missing_type node ty.now (of.required_type container) in
         Lowers HasNone (spec.report_missing fault) state.old result state.new }
 {
@@ -183,14 +183,14 @@ fn report_missing(
 pub fn alias_form<E: LowerEnv>(
     alloc: Global,
     env: &E,
-    place: Place,
+    place: LowerCtx,
     state: &mut StoredBody,
     def: GenericDefId,
     container: ItemContainerId,
     node: &TypeAlias,
-) -> Result<(Seq<TypeBound>, Option<TypeRefId>), StoreFault>
-    ensures { let at = spot_at (E.answers env.now) place in
-        Lowers HasAlias (spec.lower_alias def (of.answered_alias at def container node.now)) state.old result state.new }
+) -> Result<(Seq<TypeBound>, Option<TypeRefId>), StoreError>
+    ensures { let at = rctx_at (E.answers env.now) place in
+        Lowers HasAlias (spec.lower_alias def (of.resolved_alias at def container node.now)) state.old result state.new }
 {
     let inside = in_opaque(place);
     let bounds = each_bound(alloc, env, inside, state, node.bounds.as_slice())?;

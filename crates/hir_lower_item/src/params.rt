@@ -4,10 +4,10 @@ ghost use Rattle.std.specs.Prelude.{◌≡◌, None, Some, option_copied, option
 ghost use Rattle.hir_store.specs.Range.{HasNone, HasType};
 ghost use Rattle.hir_env.specs.Answering.{name_or_missing};
 ghost use Rattle.hir_env.specs.Paths.{lifetime_of};
-ghost use Rattle.hir_env.specs.Whole.{answered_constant, bounds_part, type_part};
-ghost use Rattle.hir_lower_form.specs.Lower as steps;
-ghost use Rattle.hir_lower_form.specs.Lowering.{Lowers, alloc_type, param_type};
-ghost use Rattle.hir_lower_handlers.specs.Spots.{spot_at};
+ghost use Rattle.hir_env.specs.Whole.{resolved_constant, bounds_part, type_part};
+ghost use Rattle.hir_lower_builder.specs.Lower as steps;
+ghost use Rattle.hir_lower_builder.specs.Lowering.{Lowers, alloc_type, param_type};
+ghost use Rattle.hir_lower_callbacks.specs.ResolveCtxs.{rctx_at};
 ghost use Rattle.hir_lower_item.specs.Answering as of;
 ghost use Rattle.hir_lower_item.specs.Answering.{at_place};
 ghost use Rattle.hir_lower_item.specs.Items as item;
@@ -17,14 +17,13 @@ use crate::constants::{constant_if_present, stored_name, type_if_present, type_o
 use crate::places::{in_bounds, in_plain, pointer};
 use crate::predicates::{Bounded, ask_each, predicates};
 use hir_base::node::{AstPtr, InFile};
+use hir_env::ctx::LowerCtx;
 use hir_env::env::LowerEnv;
-use hir_env::place::Place;
-use hir_items::ast::{GenericParam, GenericParamList, WhereClause};
-use hir_lower_form::builder::StoredBody;
-use hir_lower_form::parts::site;
+use hir_lower_builder::builder::StoredBody;
+use hir_lower_builder::parts::site;
 use hir_lower_type::lifetimes::{lifetime, lifetime_ref};
 use hir_store::diagnostics::ExpressionStoreDiagnostics;
-use hir_store::fault::StoreFault;
+use hir_store::error::StoreError;
 use hir_store::generics::{
     ConstParamData, LifetimeBoundType, LifetimeParamData, TypeOrConstParamData, TypeParamData,
     TypeParamProvenance,
@@ -32,6 +31,7 @@ use hir_store::generics::{
 use hir_store::ids::{GenericDefId, LocalTypeOrConstParamId, TypeParamId, TypeRefId};
 use hir_store::name::Name;
 use hir_store::type_ref::{LifetimeRef, TypeRef};
+use hir_syntax::items::{GenericParam, GenericParamList, WhereClause};
 use hir_syntax::{Boxed, Seq, ast};
 use std::alloc::Global;
 
@@ -40,7 +40,7 @@ fn own_type(
     state: &mut StoredBody,
     parent: GenericDefId,
     number: u32,
-) -> Result<TypeRefId, StoreFault>
+) -> Result<TypeRefId, StoreError>
     ensures { Lowers HasType (alloc_type (param_type parent number) None) state.old result state.new }
 {
     let local_id = LocalTypeOrConstParamId(number);
@@ -51,15 +51,15 @@ fn own_type(
 pub(crate) fn type_param_form<E: LowerEnv>(
     alloc: Global,
     env: &E,
-    place: Place,
+    place: LowerCtx,
     state: &mut StoredBody,
     def: GenericDefId,
     name: Name,
     default: Option<TypeRefId>,
     provenance: TypeParamProvenance,
     bounds: &Seq<ast::TypeBound>,
-) -> Result<(), StoreFault>
-    ensures { let at = spot_at (E.answers env.now) place in
+) -> Result<(), StoreError>
+    ensures { let at = rctx_at (E.answers env.now) place in
         Lowers HasNone (spec.type_param_form def name default provenance (bounds_part at bounds.now)) state.old result state.new }
 {
     let number = state.add_param(TypeOrConstParamData::TypeParamData(TypeParamData {
@@ -74,14 +74,14 @@ pub(crate) fn type_param_form<E: LowerEnv>(
 fn type_param<E: LowerEnv>(
     alloc: Global,
     env: &E,
-    place: Place,
+    place: LowerCtx,
     state: &mut StoredBody,
     def: GenericDefId,
     name: &Option<ast::Name>,
     default: &Option<Boxed<ast::Type_>>,
     bounds: &Seq<ast::TypeBound>,
-) -> Result<(), StoreFault>
-    ensures { let at = spot_at (E.answers env.now) place in
+) -> Result<(), StoreError>
+    ensures { let at = rctx_at (E.answers env.now) place in
         Lowers HasNone (spec.lower_param def (item.type_param (name_or_missing name.now) (type_part (at_place of.in_plain at) default.now)
         (bounds_part (at_place (of.in_bounds def) at) bounds.now))) state.old result state.new }
 {
@@ -95,15 +95,15 @@ fn type_param<E: LowerEnv>(
 fn const_param<E: LowerEnv>(
     alloc: Global,
     env: &E,
-    place: Place,
+    place: LowerCtx,
     state: &mut StoredBody,
     name: &Option<ast::Name>,
     ty: &Option<Boxed<ast::Type_>>,
     default: &Option<ast::ConstArg>,
-) -> Result<(), StoreFault>
-    ensures { let at = at_place of.in_plain (spot_at (E.answers env.now) place) in
+) -> Result<(), StoreError>
+    ensures { let at = at_place of.in_plain (rctx_at (E.answers env.now) place) in
         Lowers HasNone (spec.const_param_form (name_or_missing name.now) (steps.type_part None (type_part at ty.now))
-        (spec.present_constant (option_map (answered_constant at) default.now))) state.old result state.new }
+        (spec.present_constant (option_map (resolved_constant at) default.now))) state.old result state.new }
 {
     let inside = in_plain(place);
     let ty = type_or_error(alloc, env, inside, state, ty)?;
@@ -118,13 +118,13 @@ fn const_param<E: LowerEnv>(
 fn written_lifetime<E: LowerEnv>(
     alloc: Global,
     env: &E,
-    place: Place,
+    place: LowerCtx,
     state: &mut StoredBody,
     def: GenericDefId,
     written: &ast::Lifetime,
     bounds: &Seq<ast::TypeBound>,
-) -> Result<(), StoreFault>
-    ensures { let at = spot_at (E.answers env.now) place in
+) -> Result<(), StoreError>
+    ensures { let at = rctx_at (E.answers env.now) place in
         Lowers HasNone (spec.lower_param def (of.lifetime_param_of (Some (lifetime_of (of.in_plain place) written.now))
         (bounds_part (at_place (of.in_bounds def) at) bounds.now))) state.old result state.new }
 {
@@ -146,13 +146,13 @@ fn written_lifetime<E: LowerEnv>(
 fn lifetime_param<E: LowerEnv>(
     alloc: Global,
     env: &E,
-    place: Place,
+    place: LowerCtx,
     state: &mut StoredBody,
     def: GenericDefId,
     lifetime: &Option<ast::Lifetime>,
     bounds: &Seq<ast::TypeBound>,
-) -> Result<(), StoreFault>
-    ensures { let at = spot_at (E.answers env.now) place in
+) -> Result<(), StoreError>
+    ensures { let at = rctx_at (E.answers env.now) place in
         Lowers HasNone (spec.lower_param def (of.lifetime_param_of (option_map (lifetime_of (of.in_plain place)) lifetime.now)
         (bounds_part (at_place (of.in_bounds def) at) bounds.now))) state.old result state.new }
 {
@@ -169,12 +169,12 @@ fn lifetime_param<E: LowerEnv>(
 fn kept_param<E: LowerEnv>(
     alloc: Global,
     env: &E,
-    place: Place,
+    place: LowerCtx,
     state: &mut StoredBody,
     def: GenericDefId,
     node: &GenericParam,
-) -> Result<(), StoreFault>
-    ensures { let at = spot_at (E.answers env.now) place in
+) -> Result<(), StoreError>
+    ensures { let at = rctx_at (E.answers env.now) place in
         Lowers HasNone (spec.lower_param def (of.kept_param at def node.now)) state.old result state.new }
 {
     match node {
@@ -202,7 +202,7 @@ fn kept_param<E: LowerEnv>(
 }
 
 /// A parameter's own node.
-fn param_node(place: Place, node: &GenericParam) -> InFile<AstPtr>
+fn param_node(place: LowerCtx, node: &GenericParam) -> InFile<AstPtr>
     ensures { result ≡ of.param_pointer place node.now }
 {
     match node {
@@ -215,13 +215,13 @@ fn param_node(place: Place, node: &GenericParam) -> InFile<AstPtr>
 fn param<E: LowerEnv>(
     alloc: Global,
     env: &E,
-    place: Place,
+    place: LowerCtx,
     state: &mut StoredBody,
     def: GenericDefId,
     node: &GenericParam,
-) -> Result<(), StoreFault>
-    ensures { let at = spot_at (E.answers env.now) place in
-        Lowers HasNone (spec.lower_param def (of.answered_param at def node.now)) state.old result state.new }
+) -> Result<(), StoreError>
+    ensures { let at = rctx_at (E.answers env.now) place in
+        Lowers HasNone (spec.lower_param def (of.resolved_param at def node.now)) state.old result state.new }
 {
     let at = param_node(place, node);
     match env.cfg(site(at)) {
@@ -233,12 +233,12 @@ fn param<E: LowerEnv>(
 fn each_param<E: LowerEnv>(
     alloc: Global,
     env: &E,
-    place: Place,
+    place: LowerCtx,
     state: &mut StoredBody,
     def: GenericDefId,
     mut left: &[GenericParam],
-) -> Result<(), StoreFault>
-    ensures { let at = spot_at (E.answers env.now) place in
+) -> Result<(), StoreError>
+    ensures { let at = rctx_at (E.answers env.now) place in
         Lowers HasNone (spec.lower_params def (of.params_part at def left.entry.now)) state.old result state.new }
 {
     while let [one, rest @ ..] = left {
@@ -252,12 +252,12 @@ fn each_param<E: LowerEnv>(
 fn params<E: LowerEnv>(
     alloc: Global,
     env: &E,
-    place: Place,
+    place: LowerCtx,
     state: &mut StoredBody,
     def: GenericDefId,
     list: Option<&GenericParamList>,
-) -> Result<(), StoreFault>
-    ensures { let at = spot_at (E.answers env.now) place in
+) -> Result<(), StoreError>
+    ensures { let at = rctx_at (E.answers env.now) place in
         Lowers HasNone (spec.lower_params def (of.list_part at def (option_copied list.entry))) state.old result state.new }
 {
     match list {
@@ -270,14 +270,14 @@ fn params<E: LowerEnv>(
 pub fn generics<E: LowerEnv>(
     alloc: Global,
     env: &E,
-    place: Place,
+    place: LowerCtx,
     state: &mut StoredBody,
     def: GenericDefId,
     list: Option<&GenericParamList>,
     clause: Option<&WhereClause>,
-) -> Result<(), StoreFault>
-    ensures { let at = spot_at (E.answers env.now) place in
-        let read = of.answered_generics at def (option_copied list.entry) (option_copied clause.entry) in
+) -> Result<(), StoreError>
+    ensures { let at = rctx_at (E.answers env.now) place in
+        let read = of.resolved_generics at def (option_copied list.entry) (option_copied clause.entry) in
         Lowers HasNone (spec.lower_generics def read) state.old result state.new }
 {
     params(alloc, env, place, state, def, list)?;

@@ -1,18 +1,18 @@
 //! Where the parts of an item are read.
 
 ghost use Rattle.std.specs.Prelude.{◌≡◌};
-ghost use Rattle.hir_env.specs.Spot.{in_file, ptr};
+ghost use Rattle.hir_env.specs.ResolveCtx.{in_file, ptr};
 ghost use Rattle.hir_lower_item.specs.Answering as of;
 
 use hir_base::node::{AstPtr, InFile, NodeId, TextRange};
-use hir_env::place::{ImplTrait, LifetimeScope, Place};
+use hir_env::ctx::{ImplTrait, LifetimeScope, LowerCtx};
 use hir_store::ids::GenericDefId;
 
 /// The bounds of parameters and of where predicates.
-pub(crate) fn in_bounds(def: GenericDefId, place: Place) -> Place
+pub(crate) fn in_bounds(def: GenericDefId, place: LowerCtx) -> LowerCtx
     ensures { result ≡ of.in_bounds def place }
 {
-    Place {
+    LowerCtx {
         impl_trait: ImplTrait::Argument(def),
         lifetimes: LifetimeScope::Bound,
         ..place
@@ -20,10 +20,10 @@ pub(crate) fn in_bounds(def: GenericDefId, place: Place) -> Place
 }
 
 /// What a where predicate is of.
-pub(crate) fn in_target(place: Place) -> Place
+pub(crate) fn in_target(place: LowerCtx) -> LowerCtx
     ensures { result ≡ of.in_target place }
 {
-    Place {
+    LowerCtx {
         impl_trait: ImplTrait::Error,
         lifetimes: LifetimeScope::Bound,
         ..place
@@ -31,10 +31,10 @@ pub(crate) fn in_target(place: Place) -> Place
 }
 
 /// The bounds of a trait's `Self`.
-pub(crate) fn in_self_bounds(def: GenericDefId, place: Place) -> Place
+pub(crate) fn in_self_bounds(def: GenericDefId, place: LowerCtx) -> LowerCtx
     ensures { result ≡ of.in_self_bounds def place }
 {
-    Place {
+    LowerCtx {
         impl_trait: ImplTrait::Argument(def),
         lifetimes: LifetimeScope::Nowhere,
         ..place
@@ -42,10 +42,10 @@ pub(crate) fn in_self_bounds(def: GenericDefId, place: Place) -> Place
 }
 
 /// The types of a function's parameters.
-pub(crate) fn in_arguments(def: GenericDefId, place: Place) -> Place
+pub(crate) fn in_arguments(def: GenericDefId, place: LowerCtx) -> LowerCtx
     ensures { result ≡ of.in_arguments def place }
 {
-    Place {
+    LowerCtx {
         impl_trait: ImplTrait::Argument(def),
         lifetimes: LifetimeScope::Input,
         ..place
@@ -53,10 +53,10 @@ pub(crate) fn in_arguments(def: GenericDefId, place: Place) -> Place
 }
 
 /// What a function returns.
-pub(crate) fn in_output(place: Place) -> Place
+pub(crate) fn in_output(place: LowerCtx) -> LowerCtx
     ensures { result ≡ of.in_output place }
 {
-    Place {
+    LowerCtx {
         impl_trait: ImplTrait::Opaque,
         lifetimes: LifetimeScope::Output,
         ..place
@@ -64,10 +64,10 @@ pub(crate) fn in_output(place: Place) -> Place
 }
 
 /// The trait of an `impl`, and the bounds and the type of an alias.
-pub(crate) fn in_opaque(place: Place) -> Place
+pub(crate) fn in_opaque(place: LowerCtx) -> LowerCtx
     ensures { result ≡ of.in_opaque place }
 {
-    Place {
+    LowerCtx {
         impl_trait: ImplTrait::Opaque,
         lifetimes: LifetimeScope::Nowhere,
         ..place
@@ -75,10 +75,10 @@ pub(crate) fn in_opaque(place: Place) -> Place
 }
 
 /// The defaults and the types of parameters, and the type of an `impl`.
-pub(crate) fn in_plain(place: Place) -> Place
+pub(crate) fn in_plain(place: LowerCtx) -> LowerCtx
     ensures { result ≡ of.in_plain place }
 {
-    Place {
+    LowerCtx {
         impl_trait: ImplTrait::Error,
         lifetimes: LifetimeScope::Nowhere,
         ..place
@@ -86,7 +86,7 @@ pub(crate) fn in_plain(place: Place) -> Place
 }
 
 /// The pointer to a node of the file.
-pub(crate) fn pointer(place: Place, node: NodeId, range: TextRange) -> InFile<AstPtr>
+pub(crate) fn pointer(place: LowerCtx, node: NodeId, range: TextRange) -> InFile<AstPtr>
     ensures { result ≡ in_file place (ptr node range) }
 {
     InFile {

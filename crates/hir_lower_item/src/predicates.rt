@@ -2,28 +2,29 @@
 
 ghost use Rattle.std.specs.Prelude.{◌≡◌, IfOk, None, option_copied, option_map};
 ghost use Rattle.hir_store.specs.Range.{HasNone};
-ghost use Rattle.hir_env.specs.Whole.{answered_type, bounds_part};
+ghost use Rattle.hir_env.specs.Whole.{resolved_type, bounds_part};
 ghost use Rattle.hir_env.specs.Paths.{lifetime_of};
-ghost use Rattle.hir_lower_form.specs.Lowering.{Lowers};
-ghost use Rattle.hir_lower_handlers.specs.Spots.{spot_at};
+ghost use Rattle.hir_lower_builder.specs.Lowering.{Lowers};
+ghost use Rattle.hir_lower_callbacks.specs.ResolveCtxs.{rctx_at};
 ghost use Rattle.hir_lower_item.specs.Answering as of;
 ghost use Rattle.hir_lower_item.specs.Answering.{at_place};
 ghost use Rattle.hir_lower_item.specs.Items.{of_lifetime, of_type};
 ghost use Rattle.hir_lower_item.specs.Lower as spec;
 
 use crate::places::{in_bounds, in_target};
+use hir_env::ctx::{LifetimeScope, LowerCtx};
 use hir_env::env::LowerEnv;
-use hir_env::place::{LifetimeScope, Place};
-use hir_items::ast::{WhereClause, WherePred};
-use hir_lower_form::builder::StoredBody;
-use hir_lower_knot::items::lower_bound;
-use hir_lower_knot::knot::lower_type_node;
+use hir_lower_builder::builder::StoredBody;
+use hir_lower_recursion::items::lower_bound;
+use hir_lower_recursion::knot::lower_type_node;
 use hir_lower_type::lifetimes::{lifetime, lifetime_ref};
-use hir_store::fault::StoreFault;
+use hir_store::error::StoreError;
 use hir_store::generics::WherePredicate;
 use hir_store::ids::{GenericDefId, LifetimeRefId, TypeRefId};
-use hir_store::name::{Name, copy_names};
+use hir_store::name::Name;
+use hir_store::shared::SharedNames;
 use hir_store::type_ref::{LifetimeRef, TypeBound};
+use hir_syntax::items::{WhereClause, WherePred};
 use hir_syntax::{Seq, ast};
 use std::alloc::{AllocError, Global};
 
@@ -34,29 +35,29 @@ pub enum Bounded {
     Lifetime(LifetimeRef, LifetimeRefId),
 }
 
-/// The names of a `for<..>` once more, where one stands there.
-fn copy_binder(names: &Option<Seq<Name>>) -> Result<Option<Seq<Name>>, AllocError>
-    ensures { IfOk result (λ copy. copy ≡ names.now) }
+/// The names of a `for<..>`, where one stands there, for one predicate more. They aren't copied.
+fn share_binder(names: &Option<SharedNames>) -> Result<Option<SharedNames>, AllocError>
+    ensures { IfOk result (λ shared. shared ≡ names.now) }
 {
     match names {
         None => Ok(None),
-        Some(names) => Ok(Some(copy_names(names)?)),
+        Some(names) => Ok(Some(names.clone()?)),
     }
 }
 
 /// What a bound of a type becomes.
 fn ask_of_type(
     state: &mut StoredBody,
-    binder: &Option<Seq<Name>>,
+    binder: &Option<SharedNames>,
     target: TypeRefId,
     bound: TypeBound,
-) -> Result<(), StoreFault>
+) -> Result<(), StoreError>
     ensures { Lowers HasNone (spec.ask binder.now (Bounded.Type_ target) bound) state.old result state.new }
 {
     match &bound {
         TypeBound::Error | TypeBound::Use(_) => Ok(()),
         TypeBound::Path(_, _) | TypeBound::ForLifetime(_, _) | TypeBound::Lifetime(_) => {
-            let lifetimes = copy_binder(binder)?;
+            let lifetimes = share_binder(binder)?;
             state.add_predicate(WherePredicate::TypeBound {
                 lifetimes,
                 target,
@@ -72,13 +73,13 @@ fn ask_of_lifetime(
     text: &LifetimeRef,
     target: LifetimeRefId,
     bound: TypeBound,
-) -> Result<(), StoreFault>
+) -> Result<(), StoreError>
     ensures { Lowers HasNone (spec.ask None (Bounded.Lifetime text.now target) bound) state.old result state.new }
 {
     match &bound {
         TypeBound::Lifetime(bound) => {
             let bound = *bound;
-            state.note_lifetime(LifetimeScope::Bound, text)?;
+            state.track_lifetime(LifetimeScope::Bound, text)?;
             state.add_predicate(WherePredicate::Lifetime { target, bound })
         }
         TypeBound::Path(_, _) | TypeBound::ForLifetime(_, _) => Ok(()),
@@ -89,10 +90,10 @@ fn ask_of_lifetime(
 /// What a bound becomes, behind the names of a `for<..>`, where one stands there.
 fn ask(
     state: &mut StoredBody,
-    binder: &Option<Seq<Name>>,
+    binder: &Option<SharedNames>,
     target: &Bounded,
     bound: TypeBound,
-) -> Result<(), StoreFault>
+) -> Result<(), StoreError>
     ensures { Lowers HasNone (spec.ask binder.now target.now bound) state.old result state.new }
 {
     match target {
@@ -105,13 +106,13 @@ fn ask(
 pub(crate) fn ask_each<E: LowerEnv>(
     alloc: Global,
     env: &E,
-    place: Place,
+    place: LowerCtx,
     state: &mut StoredBody,
-    binder: &Option<Seq<Name>>,
+    binder: &Option<SharedNames>,
     target: &Bounded,
     mut left: &[ast::TypeBound],
-) -> Result<(), StoreFault>
-    ensures { let at = spot_at (E.answers env.now) place in
+) -> Result<(), StoreError>
+    ensures { let at = rctx_at (E.answers env.now) place in
         Lowers HasNone (spec.ask_each binder.now target.now (bounds_part at left.entry.now)) state.old result state.new }
 {
     while let [one, rest @ ..] = left {
@@ -144,17 +145,18 @@ fn binder_names(alloc: Global, mut left: &[Option<ast::Lifetime>]) -> Result<Seq
 }
 
 /// The names of a `for<..>`.
-fn where_binder(alloc: Global, binder: &ast::ForBinder) -> Result<Seq<Name>, AllocError>
+fn where_binder(alloc: Global, binder: &ast::ForBinder) -> Result<SharedNames, AllocError>
     ensures { IfOk result (λ names. names ≡ of.where_binder binder.now) }
 {
-    binder_names(alloc, binder.params.as_slice())
+    let names = binder_names(alloc, binder.params.as_slice())?;
+    SharedNames::new(alloc, names)
 }
 
 /// The names of a `for<..>`, where one stands there.
 fn binder_if_present(
     alloc: Global,
     binder: &Option<ast::ForBinder>,
-) -> Result<Option<Seq<Name>>, AllocError>
+) -> Result<Option<SharedNames>, AllocError>
     ensures { IfOk result (λ names. names ≡ option_map of.where_binder binder.now) }
 {
     match binder {
@@ -167,15 +169,15 @@ fn binder_if_present(
 fn of_type<E: LowerEnv>(
     alloc: Global,
     env: &E,
-    place: Place,
+    place: LowerCtx,
     state: &mut StoredBody,
     def: GenericDefId,
     ty: &ast::Type_,
     binder: &Option<ast::ForBinder>,
     bounds: &Seq<ast::TypeBound>,
-) -> Result<(), StoreFault>
-    ensures { let at = spot_at (E.answers env.now) place in
-        Lowers HasNone (spec.lower_predicate (of_type (answered_type (at_place of.in_target at) ty.now)
+) -> Result<(), StoreError>
+    ensures { let at = rctx_at (E.answers env.now) place in
+        Lowers HasNone (spec.lower_predicate (of_type (resolved_type (at_place of.in_target at) ty.now)
         (option_map of.where_binder binder.now) (bounds_part (at_place (of.in_bounds def) at) bounds.now))) state.old result state.new }
 {
     let id = lower_type_node(alloc, env, in_target(place), state, &None, ty)?;
@@ -197,13 +199,13 @@ fn of_type<E: LowerEnv>(
 fn of_lifetime<E: LowerEnv>(
     alloc: Global,
     env: &E,
-    place: Place,
+    place: LowerCtx,
     state: &mut StoredBody,
     def: GenericDefId,
     written: &ast::Lifetime,
     bounds: &Seq<ast::TypeBound>,
-) -> Result<(), StoreFault>
-    ensures { let at = spot_at (E.answers env.now) place in
+) -> Result<(), StoreError>
+    ensures { let at = rctx_at (E.answers env.now) place in
         Lowers HasNone (spec.lower_predicate (of_lifetime (lifetime_of (of.in_target place) written.now)
         (bounds_part (at_place (of.in_bounds def) at) bounds.now))) state.old result state.new }
 {
@@ -216,13 +218,13 @@ fn of_lifetime<E: LowerEnv>(
 fn predicate<E: LowerEnv>(
     alloc: Global,
     env: &E,
-    place: Place,
+    place: LowerCtx,
     state: &mut StoredBody,
     def: GenericDefId,
     node: &WherePred,
-) -> Result<(), StoreFault>
-    ensures { let at = spot_at (E.answers env.now) place in
-        Lowers HasNone (spec.lower_predicate (of.answered_predicate at def node.now)) state.old result state.new }
+) -> Result<(), StoreError>
+    ensures { let at = rctx_at (E.answers env.now) place in
+        Lowers HasNone (spec.lower_predicate (of.resolved_predicate at def node.now)) state.old result state.new }
 {
     match (&node.ty, &node.lifetime) {
         (Some(ty), _) => {
@@ -248,12 +250,12 @@ fn predicate<E: LowerEnv>(
 fn each_predicate<E: LowerEnv>(
     alloc: Global,
     env: &E,
-    place: Place,
+    place: LowerCtx,
     state: &mut StoredBody,
     def: GenericDefId,
     mut left: &[WherePred],
-) -> Result<(), StoreFault>
-    ensures { let at = spot_at (E.answers env.now) place in
+) -> Result<(), StoreError>
+    ensures { let at = rctx_at (E.answers env.now) place in
         Lowers HasNone (spec.lower_predicates (of.predicates_part at def left.entry.now)) state.old result state.new }
 {
     while let [one, rest @ ..] = left {
@@ -267,12 +269,12 @@ fn each_predicate<E: LowerEnv>(
 pub(crate) fn predicates<E: LowerEnv>(
     alloc: Global,
     env: &E,
-    place: Place,
+    place: LowerCtx,
     state: &mut StoredBody,
     def: GenericDefId,
     clause: Option<&WhereClause>,
-) -> Result<(), StoreFault>
-    ensures { let at = spot_at (E.answers env.now) place in
+) -> Result<(), StoreError>
+    ensures { let at = rctx_at (E.answers env.now) place in
         Lowers HasNone (spec.lower_predicates (of.where_part at def (option_copied clause.entry))) state.old result state.new }
 {
     match clause {

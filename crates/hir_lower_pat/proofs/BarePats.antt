@@ -8,25 +8,25 @@ use Rattle.hir_syntax.specs.declared.pats.Pat.{Pat as AstPat}
 use Rattle.hir_syntax.specs.declared.pats.PatKind.{out-PatKind}
 use Rattle.hir_store.specs.Names.{IsWritten}
 use Rattle.hir_store.specs.Pointers.{Pointer}
-use Rattle.hir_env.specs.Answered as tree
-use Rattle.hir_env.specs.Answered.{Pat, Signed, Use}
+use Rattle.hir_env.specs.ResolvedTree as tree
+use Rattle.hir_env.specs.ResolvedTree.{Pat, Signed, Use}
 use Rattle.hir_env.specs.Answering.{name_written}
 use Rattle.hir_env.specs.Answers.{Expanding, expanded, no_expansion, unresolved}
 use Rattle.hir_env.specs.Calls.{asked_call, call_pointer, called, entered_pat, inside_file, pat_in}
 use Rattle.hir_env.specs.declared.expand.FragmentKind.TheVariants as kind
-use Rattle.hir_env.specs.declared.place.Place.{Place}
+use Rattle.hir_env.specs.declared.ctx.LowerCtx.{LowerCtx}
 use Rattle.hir_env.specs.PatLayers.{PatKindLayer}
 use Rattle.hir_env.specs.Pats.{is_found, minus_fits, name_or_bind, pat_at, use_at}
-use Rattle.hir_env.specs.Spot.{Spot}
+use Rattle.hir_env.specs.ResolveCtx.{ResolveCtx}
 use Rattle.hir_env.specs.TypePats.{bare_pat, is_plain, plain_or_barred}
-use Rattle.hir_env.specs.Whole.{answered_pat, entering, into, pointer_at, reader, written}
+use Rattle.hir_env.specs.Whole.{resolved_pat, entering, into, pointer_at, reader, written}
 use Rattle.hir_env.proofs.PatLevels.{pat_is_level}
 use Rattle.hir_store.specs.declared.ids.PatId.{PatId}
-use Rattle.hir_lower_form.specs.Builder.{Builder}
-use Rattle.hir_lower_form.specs.Calls.{Found, enter_left, entered_at, found_in, note, told}
-use Rattle.hir_lower_form.specs.Lower.{lower_pat}
-use Rattle.hir_lower_form.specs.Lowering.{Lowering, ◌>>=◌, ◌>>◌, pure}
-use Rattle.hir_lower_form.specs.Pats.{Table, called_pat_form}
+use Rattle.hir_lower_builder.specs.Builder.{Builder}
+use Rattle.hir_lower_builder.specs.Calls.{Found, enter_left, entered_at, found_in, track, emitted}
+use Rattle.hir_lower_builder.specs.Lower.{lower_pat}
+use Rattle.hir_lower_builder.specs.Lowering.{Lowering, ◌>>=◌, ◌>>◌, pure}
+use Rattle.hir_lower_builder.specs.Pats.{Table, called_pat_form}
 use Rattle.hir_lower_pat.specs.Bare.{Bare, bare_as, bare_kind, bare_there, barred, plain_name, uncalled, wild}
 use Rattle.hir_lower_pat.specs.Bare as bare
 use Rattle.hir_lower_pat.specs.Calls.{pat_there, point_named, written_call}
@@ -37,7 +37,7 @@ plain_binds : (b : Bool) (s : Pointer) (u : Use) (w : IsWritten u.name) → is_p
 plain_binds true s u w h = refl
 plain_binds false s u w h = ap (λ b. plain_or_barred b s u w) h
 
-module _ (at : Spot) (s : Pointer) where
+module _ (at : ResolveCtx) (s : Pointer) where
   abbrev level : PatKindLayer written → Pat
   level k = pat_at at.answers (reader at.answers (into at)) k at.place s
 
@@ -92,13 +92,13 @@ module _ (at : Spot) (s : Pointer) where
   kind_reads PatKind-F.ConstBlockPat = refl
 
 -- what a pattern gives where only a plain name or `_` may stand
-pub bare_is : (at : Spot) (p : AstPat) → bare_pat (answered_pat at p) ≡ bare_as at p (bare_kind (out-PatKind p.kind))
+pub bare_is : (at : ResolveCtx) (p : AstPat) → bare_pat (resolved_pat at p) ≡ bare_as at p (bare_kind (out-PatKind p.kind))
 bare_is at p =
     let k = out-PatKind p.kind in
     let s = pointer_at at p.id p.range in
     ap bare_pat (pat_is_level at p) ∙ kind_reads at s k ∙ as_read at p (bare_kind k)
   where
-    as_read : (at : Spot) (p : AstPat) (b : Bare) → read_as at (pointer_at at p.id p.range) b ≡ bare_as at p b
+    as_read : (at : ResolveCtx) (p : AstPat) (b : Bare) → read_as at (pointer_at at p.id p.range) b ≡ bare_as at p b
     as_read at p wild = refl
     as_read at p (plain_name n) = refl
     as_read at p uncalled = refl
@@ -107,33 +107,33 @@ bare_is at p =
 
 -- a call is what is told of it, and then what it stands for
 
-abbrev there : Spot → Pointer → Table → Found → Lowering (PatId × Table)
+abbrev there : ResolveCtx → Pointer → Table → Found → Lowering (PatId × Table)
 there at s t f = bare_there at (pat_there f) t >>= point_named s
 
-called_by : (at : Spot) (s c : Pointer) (t : Table) (n : ℕ) (x : Expanding) (b : Builder)
+called_by : (at : ResolveCtx) (s c : Pointer) (t : Table) (n : ℕ) (x : Expanding) (b : Builder)
     → lower_pat (bare_pat (tree.macro_pat s (called c x) (pat_in (fresh at.answers n) at.place x))) t b
-    ≡ ((told (called c x) >> pure (found_in n at.place x)) >>= there at s t) b
+    ≡ ((emitted (called c x) >> pure (found_in n at.place x)) >>= there at s t) b
 unfolding called_pat_form
 called_by at s c t n (unresolved y) b =
-    let o = told (tree.unresolved c y) b in named s t o.0 o.1 ∙ found_on o.0 o.1 None (there at s t) _ refl
+    let o = emitted (tree.unresolved c y) b in named s t o.0 o.1 ∙ found_on o.0 o.1 None (there at s t) _ refl
 called_by at s c t n no_expansion b = named s t (Ok tt) b ∙ found_on (Ok tt) b None (there at s t) _ refl
 called_by at s c t n (expanded f None es) b =
-    let o = note (record { call = c; file = f; eager = es }) b in
+    let o = track (record { call = c; file = f; eager = es }) b in
     named s t o.0 o.1 ∙ found_on o.0 o.1 (Some (inside_file f n at.place, None)) (there at s t) _ refl
 called_by at s c t n (expanded f (Some (fragment.Expr e)) es) b =
-    let o = note (record { call = c; file = f; eager = es }) b in
+    let o = track (record { call = c; file = f; eager = es }) b in
     named s t o.0 o.1 ∙ found_on o.0 o.1 (Some (inside_file f n at.place, Some (fragment.Expr e))) (there at s t) _ refl
 called_by at s c t n (expanded f (Some (fragment.Stmts e)) es) b =
-    let o = note (record { call = c; file = f; eager = es }) b in
+    let o = track (record { call = c; file = f; eager = es }) b in
     named s t o.0 o.1 ∙ found_on o.0 o.1 (Some (inside_file f n at.place, Some (fragment.Stmts e))) (there at s t) _ refl
 called_by at s c t n (expanded f (Some (fragment.Type_ e)) es) b =
-    let o = note (record { call = c; file = f; eager = es }) b in
+    let o = track (record { call = c; file = f; eager = es }) b in
     named s t o.0 o.1 ∙ found_on o.0 o.1 (Some (inside_file f n at.place, Some (fragment.Type_ e))) (there at s t) _ refl
 called_by at s c t n (expanded f (Some (fragment.Pat e)) es) b =
-    let o = note (record { call = c; file = f; eager = es }) b in
+    let o = track (record { call = c; file = f; eager = es }) b in
     found_on o.0 o.1 (Some (inside_file f n at.place, Some (fragment.Pat e))) (there at s t) _ refl
 
-pub bare_on : (at : Spot) (s : Pointer) (c : AstMacroCall) (t : Table) (b : Builder)
+pub bare_on : (at : ResolveCtx) (s : Pointer) (c : AstMacroCall) (t : Table) (b : Builder)
     → lower_pat (bare_pat (written_call at s c)) t b
     ≡ (entered_at at kind.Pat c >>= (λ f. bare_there at (pat_there f) t >>= point_named s)) b
 unfolding called_pat_form
@@ -145,6 +145,6 @@ bare_on at s c t b = by at.place.left
     by (suc n) = called_by at s (call_pointer at.place c) t n (asked_call at.answers kind.Pat c at.place) b
 
 -- fewer calls may be entered where it is read what one stands for
-pub less_left : (at : Spot) (c : AstMacroCall) (b d : Builder) (found : Found) → entered_at at kind.Pat c b ≡ (Ok found, d)
-    → (q : Place) (e : AstPat) → pat_there found ≡ Some (q, e) → q.left < at.place.left
+pub less_left : (at : ResolveCtx) (c : AstMacroCall) (b d : Builder) (found : Found) → entered_at at kind.Pat c b ≡ (Ok found, d)
+    → (q : LowerCtx) (e : AstPat) → pat_there found ≡ Some (q, e) → q.left < at.place.left
 less_left at c = was_entered at c (λ q e. q.left < at.place.left) (λ n f e es left asked. omega (arith, left))

@@ -6,29 +6,29 @@ use Rattle.hir_syntax.specs.declared.pats.Pat.{Pat as AstPat}
 use Rattle.hir_store.specs.Pointers.{Pointer}
 use Rattle.hir_store.specs.Range.{Grows, HasPat, HasPatOption}
 use Rattle.hir_store.specs.Stored.{Stored}
-use Rattle.hir_store.specs.declared.fault.StoreFault.{StoreFault}
-use Rattle.hir_store.specs.declared.fault.StoreFault.TheVariants.{Memory}
+use Rattle.hir_store.specs.declared.error.StoreError.{StoreError}
+use Rattle.hir_store.specs.declared.error.StoreError.TheVariants.{Memory}
 use Rattle.hir_store.specs.declared.ids.PatId.{PatId}
-use Rattle.hir_env.specs.Spot.{Spot}
-use Rattle.hir_env.specs.Whole.{answered_pat}
+use Rattle.hir_env.specs.ResolveCtx.{ResolveCtx}
+use Rattle.hir_env.specs.Whole.{resolved_pat}
 use Rattle.hir_env.specs.declared.expand.FragmentKind.TheVariants as kind
-use Rattle.hir_env.specs.declared.place.Place.{Place}
-use Rattle.hir_lower_form.specs.Builder.{Builder}
-use Rattle.hir_lower_form.specs.Calls.{Found, entered_at}
-use Rattle.hir_lower_form.specs.Lowering.{Checked, Lowering, Lowers, SomeEnd, ◌>>=◌, go_on, pure}
-use Rattle.hir_lower_form.specs.Methods.{at_place}
-use Rattle.hir_lower_form.specs.Pats.{Table}
+use Rattle.hir_env.specs.declared.ctx.LowerCtx.{LowerCtx}
+use Rattle.hir_lower_builder.specs.Builder.{Builder}
+use Rattle.hir_lower_builder.specs.Calls.{Found, entered_at}
+use Rattle.hir_lower_builder.specs.Lowering.{Checked, Lowering, Lowers, SomeEnd, ◌>>=◌, go_on, pure}
+use Rattle.hir_lower_builder.specs.Methods.{at_place}
+use Rattle.hir_lower_builder.specs.Pats.{Table}
 use Rattle.hir_lower_pat.specs.Bindings.{HasNames, LowersNamed, table_of}
 use Rattle.hir_lower_pat.specs.Calls.{There, element_there, missing_led, pat_there, written_call}
 use Rattle.hir_lower_pat.specs.Methods.{element_steps, point_element, point_found}
 use Rattle.hir_lower_pat.specs.declared.bindings.Bindings.{Bindings}
-use Rattle.hir_lower_pat.proofs.AimTurns.{grows_on}
+use Rattle.hir_lower_pat.proofs.AssigneeFuel.{grows_on}
 use Rattle.hir_lower_pat.proofs.CallLemmas.{element_on, lone_led}
 use Rattle.hir_lower_pat.proofs.NameLemmas.{names_grow}
 
 -- what is refused is refused in what it stands in
 pub refused_named : {A : Type 0} (Has : Stored → A → Type 0) (steps : Table → Lowering (A × Table)) (was is : Bindings)
-    (old new : Builder) (e : StoreFault) (r : Checked A) → IsErrAnd r (λ f. f ≡ e)
+    (old new : Builder) (e : StoreError) (r : Checked A) → IsErrAnd r (λ f. f ≡ e)
     → (e ≢ Memory → (steps (table_of was) old ≡ (Err e, new)) × SomeEnd new) → LowersNamed Has steps was old r is new
 refused_named Has steps was is old new e (Ok a) refused h = absurd refused
 refused_named Has steps was is old new e (Err f) refused h = rw refused h
@@ -46,7 +46,7 @@ pub part_named : (steps : Table → Lowering (PatId × Table)) (as_element : Tab
 part_named steps as_element was is old new i same h =
     (ap (λ f. f old) (same (table_of was)) ∙ ap (λ r. go_on r.0 r.1 present) h.0, h.1, some_has new.stored i h.2, h.3, h.4)
 
-module _ (at : Spot) (s : Pointer) (c : AstMacroCall) (was is : Bindings) (old mid : Builder) where
+module _ (at : ResolveCtx) (s : Pointer) (c : AstMacroCall) (was is : Bindings) (old mid : Builder) where
   abbrev steps : Table → Lowering (Option PatId × Table)
   steps = element_steps (written_call at s c)
 
@@ -54,7 +54,7 @@ module _ (at : Spot) (s : Pointer) (c : AstMacroCall) (was is : Bindings) (old m
   behind t f = element_there at (pat_there f) t >>= point_element s
 
   -- refused where it is asked about
-  pub unasked : (t : Table) (e : StoreFault) → entered_at at kind.Pat c old ≡ (Err e, mid) → steps t old ≡ (Err e, mid)
+  pub unasked : (t : Table) (e : StoreError) → entered_at at kind.Pat c old ≡ (Err e, mid) → steps t old ≡ (Err e, mid)
   unasked t e h = element_on at s c t old ∙ ap (λ r. go_on r.0 r.1 (behind t)) h
 
   -- found, and then what is there
@@ -69,7 +69,7 @@ module _ (at : Spot) (s : Pointer) (c : AstMacroCall) (was is : Bindings) (old m
     nothing_there : (t : Table) → steps t old ≡ (missing_led s >>= (λ i. pure (Some i, t))) mid
     nothing_there t = found t f None h k ∙ lone_led s t mid
 
-    pub missing_refused : (t : Table) (e : StoreFault) → missing_led s mid ≡ (Err e, new) → steps t old ≡ (Err e, new)
+    pub missing_refused : (t : Table) (e : StoreError) → missing_led s mid ≡ (Err e, new) → steps t old ≡ (Err e, new)
     missing_refused t e l = nothing_there t ∙ ap (λ r. go_on r.0 r.1 (λ i. pure (Some i, t))) l
 
     pub missing_named : (i : PatId) → Grows old.stored mid.stored → HasNames old.stored was
@@ -84,11 +84,11 @@ module _ (at : Spot) (s : Pointer) (c : AstMacroCall) (was is : Bindings) (old m
         )
 
   -- that it stands for one
-  module _ (f : Found) (q : Place) (x : AstPat) (h : entered_at at kind.Pat c old ≡ (Ok f, mid)) (k : pat_there f ≡ Some (q, x)) where
+  module _ (f : Found) (q : LowerCtx) (x : AstPat) (h : entered_at at kind.Pat c old ≡ (Ok f, mid)) (k : pat_there f ≡ Some (q, x)) where
     abbrev inner : Table → Lowering (Option PatId × Table)
-    inner = element_steps (answered_pat (at_place at q) x)
+    inner = element_steps (resolved_pat (at_place at q) x)
 
-    pub inner_refused : (t : Table) (e : StoreFault) (new : Builder) → inner t mid ≡ (Err e, new) → steps t old ≡ (Err e, new)
+    pub inner_refused : (t : Table) (e : StoreError) (new : Builder) → inner t mid ≡ (Err e, new) → steps t old ≡ (Err e, new)
     inner_refused t e new l = found t f (Some (q, x)) h k ∙ ap (λ r. go_on r.0 r.1 (point_element s)) l
 
     led : (o : Option PatId) (low new : Builder) (r : Checked (Option PatId)) → inner (table_of was) mid ≡ (Ok (o, table_of is), low)

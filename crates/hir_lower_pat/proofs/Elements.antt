@@ -10,21 +10,21 @@ use Rattle.hir_syntax.specs.declared.pats.PatKind.TheVariants as kind
 use Rattle.hir_syntax.specs.declared.ast.ElseBranch.TheOpen.{PatKind-F}
 use Rattle.hir_store.specs.Names.{IsWritten}
 use Rattle.hir_store.specs.Pointers.{Pointer}
-use Rattle.hir_store.specs.declared.fault.StoreFault.{StoreFault}
+use Rattle.hir_store.specs.declared.error.StoreError.{StoreError}
 use Rattle.hir_store.specs.declared.ids.PatId.{PatId}
-use Rattle.hir_env.specs.Answered as tree
-use Rattle.hir_env.specs.Answered.{Called, OptionPat, Pat, Pats, Use}
+use Rattle.hir_env.specs.ResolvedTree as tree
+use Rattle.hir_env.specs.ResolvedTree.{Called, OptionPat, Pat, Pats, Use}
 use Rattle.hir_env.specs.Count.{count_pat, count_pats}
 use Rattle.hir_env.specs.PatLayers.{PatKindLayer}
 use Rattle.hir_env.specs.Pats.{element_in, element_of, is_rest, minus_fits, name_or_bind, pat_at, rest_in}
-use Rattle.hir_env.specs.Spot.{Spot}
-use Rattle.hir_env.specs.Whole.{answered_pat, elements_part, into, pointer_at, reader, written}
+use Rattle.hir_env.specs.ResolveCtx.{ResolveCtx}
+use Rattle.hir_env.specs.Whole.{resolved_pat, elements_part, into, pointer_at, reader, written}
 use Rattle.hir_env.proofs.PatLevels.{pat_is_level}
-use Rattle.hir_lower_form.specs.Builder.{Builder}
-use Rattle.hir_lower_form.specs.Calls.{told}
-use Rattle.hir_lower_form.specs.Lower.{lower_elements, lower_pat, present_pat}
-use Rattle.hir_lower_form.specs.Lowering.{Checked, Lowering, ◌>>=◌, ◌>>◌, go_on, point_pat, pure}
-use Rattle.hir_lower_form.specs.Pats.{Elements, Table, called_pat_form, dots_after, element_form, is_dots}
+use Rattle.hir_lower_builder.specs.Builder.{Builder}
+use Rattle.hir_lower_builder.specs.Calls.{emitted}
+use Rattle.hir_lower_builder.specs.Lower.{lower_elements, lower_pat, present_pat}
+use Rattle.hir_lower_builder.specs.Lowering.{Checked, Lowering, ◌>>=◌, ◌>>◌, go_on, point_pat, pure}
+use Rattle.hir_lower_builder.specs.Pats.{Elements, Table, called_pat_form, dots_after, element_form, is_dots}
 use Rattle.hir_lower_pat.specs.Methods.{add_element, element_behind, element_steps, point_element}
 use Rattle.hir_lower_pat.proofs.KindLemmas.{first_of}
 
@@ -85,16 +85,16 @@ count_in p ps = by (is_rest p)
 -- what they are lowered to
 
 -- what is told of the calls that two dots come out of
-abbrev told_through : Pat → Lowering (Unit {0})
-told_through (tree.macro_pat s called (tree.some_pat p)) = told called >> told_through p
-told_through _ = pure tt
+abbrev emitted_through : Pat → Lowering (Unit {0})
+emitted_through (tree.macro_pat s called (tree.some_pat p)) = emitted called >> emitted_through p
+emitted_through _ = pure tt
 
 -- steps behind what is told
-behind_told : {A B : Type 0} (o : Checked (Unit {0})) (b : Builder) (p : Lowering (Unit {0})) (q : Lowering A) (F : A → Lowering B)
+behind_emitted : {A B : Type 0} (o : Checked (Unit {0})) (b : Builder) (p : Lowering (Unit {0})) (q : Lowering A) (F : A → Lowering B)
     → go_on (go_on o b (λ _. p >> q)).0 (go_on o b (λ _. p >> q)).1 F
     ≡ go_on (go_on o b (λ _. p)).0 (go_on o b (λ _. p)).1 (λ _. q >>= F)
-behind_told (Err e) b p q F = refl
-behind_told (Ok _) b p q F = by (p b).0
+behind_emitted (Err e) b p q F = refl
+behind_emitted (Ok _) b p q F = by (p b).0
   where
     by : (o : Checked (Unit {0}))
         → go_on (go_on o (p b).1 (λ _. q)).0 (go_on o (p b).1 (λ _. q)).1 F ≡ go_on o (p b).1 (λ _. q >>= F)
@@ -102,25 +102,25 @@ behind_told (Ok _) b p q F = by (p b).0
     by (Err e) = refl
 
 -- the same for what follows it
-after_told : {A : Type 0} (o : Checked (Unit {0})) (b : Builder) (p : Lowering (Unit {0})) (q m : Lowering A)
+after_emitted : {A : Type 0} (o : Checked (Unit {0})) (b : Builder) (p : Lowering (Unit {0})) (q m : Lowering A)
     → ((c : Builder) → m c ≡ (p >> q) c)
     → go_on o b (λ _. m) ≡ go_on (go_on o b (λ _. p)).0 (go_on o b (λ _. p)).1 (λ _. q)
-after_told (Err e) b p q m h = refl
-after_told (Ok _) b p q m h = h b
+after_emitted (Err e) b p q m h = refl
+after_emitted (Ok _) b p q m h = h b
 
 -- two dots are no part
-rest_steps : (p : Pat) (t : Table) (b : Builder) → is_rest p ≡ true → element_steps p t b ≡ (told_through p >> pure (None, t)) b
+rest_steps : (p : Pat) (t : Table) (b : Builder) → is_rest p ≡ true → element_steps p t b ≡ (emitted_through p >> pure (None, t)) b
 rest_steps (tree.leaf_pat s tree.rest_leaf) t b h = refl
 rest_steps (tree.leaf_pat s tree.wild_leaf) t b h = absurd (true≢false (sym h))
 rest_steps (tree.leaf_pat s tree.not_null_leaf) t b h = absurd (true≢false (sym h))
 rest_steps (tree.leaf_pat s tree.broken_leaf) t b h = absurd (true≢false (sym h))
 rest_steps (tree.macro_pat s called tree.no_pat) t b h = absurd (true≢false (sym h))
 rest_steps (tree.macro_pat s called (tree.some_pat p)) t b h =
-    let o = told called b in
-    let through : (c : Builder) → (element_steps p t >>= point_element s) c ≡ (told_through p >> pure (None, t)) c =
+    let o = emitted called b in
+    let through : (c : Builder) → (element_steps p t >>= point_element s) c ≡ (emitted_through p >> pure (None, t)) c =
     λ c. ap (λ r. go_on r.0 r.1 (point_element s)) (rest_steps p t c h)
-    ∙ (behind_told (Ok tt) c (told_through p) (pure (None, t)) (point_element s) ∙ refl) in
-    after_told o.0 o.1 (told_through p) (pure (None, t)) (element_steps p t >>= point_element s) through
+    ∙ (behind_emitted (Ok tt) c (emitted_through p) (pure (None, t)) (point_element s) ∙ refl) in
+    after_emitted o.0 o.1 (emitted_through p) (pure (None, t)) (element_steps p t >>= point_element s) through
 rest_steps (tree.bind_pat s u w q) t b h = absurd (true≢false (sym h))
 rest_steps (tree.name_pat s u w) t b h = absurd (true≢false (sym h))
 rest_steps (tree.path_pat s x) t b h = absurd (true≢false (sym h))
@@ -138,15 +138,16 @@ rest_steps (tree.barred_pat s) t b h = absurd (true≢false (sym h))
 -- but say where parts are left out
 rest_lowers : (p : Pat) (ps : Pats) (done : Elements) (t : Table) (b : Builder) → is_rest p ≡ true
     → lower_elements done (rest_in p ps) t b
-    ≡ (told_through p >> lower_elements (done.0, dots_after done.0 done.1) ps t) b
+    ≡ (emitted_through p >> lower_elements (done.0, dots_after done.0 done.1) ps t) b
 rest_lowers (tree.leaf_pat s tree.rest_leaf) ps done t b h = refl
 rest_lowers (tree.leaf_pat s tree.wild_leaf) ps done t b h = absurd (true≢false (sym h))
 rest_lowers (tree.leaf_pat s tree.not_null_leaf) ps done t b h = absurd (true≢false (sym h))
 rest_lowers (tree.leaf_pat s tree.broken_leaf) ps done t b h = absurd (true≢false (sym h))
 rest_lowers (tree.macro_pat s called tree.no_pat) ps done t b h = absurd (true≢false (sym h))
 rest_lowers (tree.macro_pat s called (tree.some_pat p)) ps done t b h =
-    let o = told called b in
-    after_told o.0 o.1 (told_through p) (lower_elements (done.0, dots_after done.0 done.1) ps t) (lower_elements done (rest_in p ps) t)
+    let o = emitted called b in
+    after_emitted o.0 o.1 (emitted_through p) (lower_elements (done.0, dots_after done.0 done.1) ps t)
+    (lower_elements done (rest_in p ps) t)
     (λ c. rest_lowers p ps done t c h)
 rest_lowers (tree.bind_pat s u w q) ps done t b h = absurd (true≢false (sym h))
 rest_lowers (tree.name_pat s u w) ps done t b h = absurd (true≢false (sym h))
@@ -194,7 +195,7 @@ call_is_part : (s : Pointer) (called : Called) (p : Pat) (t : Table) (b : Builde
     ≡ present_pat (tree.some_pat (tree.macro_pat s called (tree.some_pat (element_of p)))) t b
 unfolding called_pat_form
 call_is_part s called p t b h =
-    let o = told called b in
+    let o = emitted called b in
     let leads : (c : Builder) → (element_steps p t >>= point_element s) c ≡ ((lower_pat (element_of p) t >>= point_at s) >>= present) c =
     λ c. let q = lower_pat (element_of p) t c in ap (λ r. go_on r.0 r.1 (point_element s)) (h c) ∙ lead_on s q.0 q.1 in
     call_leads o.0 o.1 (element_steps p t >>= point_element s) (lower_pat (element_of p) t >>= point_at s) present leads
@@ -297,7 +298,7 @@ lowers_in p ps done t b = by (is_rest p) refl
         → lower_elements done (if c then rest_in p ps else tree.more_pats (element_of p) ps) t b
         ≡ (element_behind done (element_steps p) t >>= more_elements ps) b
     by true h =
-        let o = told_through p b in
+        let o = emitted_through p b in
         rest_lowers p ps done t b h ∙ (none_behind o.0 o.1 done ps t
         ∙ ap (λ r. go_on (go_on r.0 r.1 (added done)).0 (go_on r.0 r.1 (added done)).1 (more_elements ps)) (sym (rest_steps p t b h)))
     by false h =
@@ -308,32 +309,32 @@ lowers_in p ps done t b = by (is_rest p) refl
 
 -- one after another
 
-module _ (at : Spot) (done : Elements) (xs : List AstPat) (x : AstPat) (t : Table) (b c : Builder) where
+module _ (at : ResolveCtx) (done : Elements) (xs : List AstPat) (x : AstPat) (t : Table) (b c : Builder) where
   abbrev behind : List AstPat
   behind = take (length xs - 1) (drop 1 xs)
 
   abbrev more : Elements × Table → Lowering (Elements × Table)
   more = more_elements (elements_part at behind)
 
-  turn : x ≡ slice_index_or xs 0 x → 1 ≤ length xs
-      → lower_elements done (elements_part at xs) t b ≡ (element_behind done (element_steps (answered_pat at x)) t >>= more) b
-  turn h le =
+  iteration : x ≡ slice_index_or xs 0 x → 1 ≤ length xs
+      → lower_elements done (elements_part at xs) t b ≡ (element_behind done (element_steps (resolved_pat at x)) t >>= more) b
+  iteration h le =
       ap (λ ys. lower_elements done (elements_part at ys) t b) (first_of xs x h le)
-      ∙ lowers_in (answered_pat at x) (elements_part at behind) done t b
+      ∙ lowers_in (resolved_pat at x) (elements_part at behind) done t b
 
-  pub refused : (e : StoreFault) → x ≡ slice_index_or xs 0 x → 1 ≤ length xs
-      → element_behind done (element_steps (answered_pat at x)) t b ≡ (Err e, c)
+  pub refused : (e : StoreError) → x ≡ slice_index_or xs 0 x → 1 ≤ length xs
+      → element_behind done (element_steps (resolved_pat at x)) t b ≡ (Err e, c)
       → lower_elements done (elements_part at xs) t b ≡ (Err e, c)
-  refused e h le is = turn h le ∙ ap (λ r. go_on r.0 r.1 more) is
+  refused e h le is = iteration h le ∙ ap (λ r. go_on r.0 r.1 more) is
 
   pub one_more : (r : Elements × Table) → x ≡ slice_index_or xs 0 x → 1 ≤ length xs
-      → element_behind done (element_steps (answered_pat at x)) t b ≡ (Ok r, c)
+      → element_behind done (element_steps (resolved_pat at x)) t b ≡ (Ok r, c)
       → lower_elements done (elements_part at xs) t b ≡ lower_elements r.0 (elements_part at behind) r.1 c
-  one_more r h le is = turn h le ∙ ap (λ q. go_on q.0 q.1 more) is
+  one_more r h le is = iteration h le ∙ ap (λ q. go_on q.0 q.1 more) is
 
 -- by their kinds
 
-abbrev level : Spot → PatKindLayer written → Pointer → Pat
+abbrev level : ResolveCtx → PatKindLayer written → Pointer → Pat
 level at k s = pat_at at.answers (reader at.answers (into at)) k at.place s
 
 abbrev IsPart : Pat → Type 0
@@ -351,8 +352,8 @@ made : (k : AstPatKind) (l : PatKindLayer written) → out-PatKind k ≡ l → k
 made k l h = sym (roll-out-PatKind k) ∙ ap roll-PatKind h
 
 -- what is neither two dots nor a call is a part
-pub part_left : (at : Spot) (p : AstPat) → (p.kind ≡ kind.RestPat → ⊥)
-    → ((o : Option AstMacroCall) → p.kind ≡ kind.MacroPat o → ⊥) → IsPart (answered_pat at p)
+pub part_left : (at : ResolveCtx) (p : AstPat) → (p.kind ≡ kind.RestPat → ⊥)
+    → ((o : Option AstMacroCall) → p.kind ≡ kind.MacroPat o → ⊥) → IsPart (resolved_pat at p)
 part_left at p no_rest no_call t =
     ap (λ q. element_steps q t) (pat_is_level at p) ∙ (by (out-PatKind p.kind) refl
     ∙ ap (λ q. present_pat (tree.some_pat q) t) (sym (pat_is_level at p)))

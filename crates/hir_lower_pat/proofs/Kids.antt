@@ -11,17 +11,17 @@ use Rattle.hir_syntax.specs.declared.pats.RecordPatField.{RecordPatField as AstP
 use Rattle.hir_store.specs.Names.{IsWritten}
 use Rattle.hir_store.specs.Pointers.{Pointer}
 use Rattle.hir_store.specs.declared.ids.CfgId.{CfgId}
-use Rattle.hir_env.specs.Spot.{Spot, site_of}
-use Rattle.hir_env.specs.Answered.{PatField, Use}
+use Rattle.hir_env.specs.ResolveCtx.{ResolveCtx, site_of}
+use Rattle.hir_env.specs.ResolvedTree.{PatField, Use}
 use Rattle.hir_env.specs.Answering.{name_written}
 use Rattle.hir_env.specs.Count.{count_option_pat, count_pat, count_pat_field, count_pat_fields, count_pats}
 use Rattle.hir_env.specs.PatLayers.{PatKindLayer}
 use Rattle.hir_env.specs.Pats.{asked_pat_field, name_or_bind, pat_at, pat_field_of, use_at}
 use Rattle.hir_env.specs.TypePats.{is_plain}
-use Rattle.hir_env.specs.Whole.{answered_pat, answered_pat_field, elements_part, into, pat_fields_part, pat_part, pats_part}
+use Rattle.hir_env.specs.Whole.{resolved_pat, resolved_pat_field, elements_part, into, pat_fields_part, pat_part, pats_part}
 use Rattle.hir_env.specs.Whole.{pointer_at, reader, written}
 use Rattle.hir_env.proofs.PatLevels.{pat_field_is_level}
-use Rattle.hir_lower_form.specs.Nests.{Each, IfPresent, KidsOfPat, KidsPatFields}
+use Rattle.hir_lower_builder.specs.Nests.{Each, IfPresent, KidsOfPat, KidsPatFields}
 use Rattle.hir_lower_pat.specs.Methods.{AnyCall}
 use Rattle.hir_lower_pat.proofs.Elements.{count_in}
 
@@ -31,8 +31,8 @@ count_kept s (Ok _) f = refl
 count_kept s (Err by) f = refl
 
 -- with what may be handed in to one lowering, as far as it is smaller, and to another
-module _ (at : Spot) (pattern inside : AstPat → Type 0) (path : AstPath → Type 0) (call : AstMacroCall → Type 0) (n : ℕ)
-    (below : (x : AstPat) → pattern x → count_pat (answered_pat at x) < n → inside x) where
+module _ (at : ResolveCtx) (pattern inside : AstPat → Type 0) (path : AstPath → Type 0) (call : AstMacroCall → Type 0) (n : ℕ)
+    (below : (x : AstPat) → pattern x → count_pat (resolved_pat at x) < n → inside x) where
   part : (o : Option AstPat) → IfPresent pattern o → count_option_pat (pat_part at o) < n → IfPresent inside o
   part None c h = tt
   part (Some x) c h = below x c h
@@ -44,7 +44,7 @@ module _ (at : Spot) (pattern inside : AstPat → Type 0) (path : AstPath → Ty
   each_element : (xs : List AstPat) → Each pattern xs → count_pats (elements_part at xs) < n → Each inside xs
   each_element [] c h = tt
   each_element (x ∷ xs) c h =
-      let same = count_in (answered_pat at x) (elements_part at xs) in
+      let same = count_in (resolved_pat at x) (elements_part at xs) in
       (below x c.0 (omega (arith, h, same)), each_element xs c.1 (omega (arith, h, same)))
 
   -- a field without its part counts for nothing
@@ -53,13 +53,13 @@ module _ (at : Spot) (pattern inside : AstPat → Type 0) (path : AstPath → Ty
   own s m None c h = tt
   own s m (Some x) c h = below x c h
 
-  field : (f : AstPatField) → IfPresent pattern (out-RecordPatField f).pat → count_pat_field (answered_pat_field at f) < n
+  field : (f : AstPatField) → IfPresent pattern (out-RecordPatField f).pat → count_pat_field (resolved_pat_field at f) < n
       → IfPresent inside (out-RecordPatField f).pat
   field f c h =
       let y = out-RecordPatField f in
       let s = pointer_at at y.id y.range in
       let read = pat_field_of s y.name (pat_part at y.pat) in
-      let same : count_pat_field (answered_pat_field at f) ≡ count_pat_field read =
+      let same : count_pat_field (resolved_pat_field at f) ≡ count_pat_field read =
       ap count_pat_field (pat_field_is_level at f) ∙ count_kept s (at.answers.cfg (site_of s)) read in
       own s y.name y.pat c (omega (arith, h, same))
 

@@ -13,24 +13,24 @@ use Rattle.hir_syntax.specs.declared.pats.PatLiteral.{PatLiteral}
 use Rattle.hir_base.specs.declared.op.RangeOp.{RangeOp}
 use Rattle.hir_store.specs.Names.{IsWritten}
 use Rattle.hir_store.specs.Pointers.{Pointer}
-use Rattle.hir_env.specs.Spot.{Spot}
-use Rattle.hir_env.specs.Answered as tree
-use Rattle.hir_env.specs.Answered.{OptionPat, Pat, Use}
+use Rattle.hir_env.specs.ResolveCtx.{ResolveCtx}
+use Rattle.hir_env.specs.ResolvedTree as tree
+use Rattle.hir_env.specs.ResolvedTree.{OptionPat, Pat, Use}
 use Rattle.hir_env.specs.PatLayers.{PatKindLayer}
 use Rattle.hir_env.specs.Pats.{minus_fits, name_or_bind, pat_at, plain_side, side_of}
 use Rattle.hir_env.specs.TypePats.{is_plain}
-use Rattle.hir_env.specs.Whole.{answered_pat, into, pats_part, reader, written}
+use Rattle.hir_env.specs.Whole.{resolved_pat, into, pats_part, reader, written}
 use Rattle.hir_store.specs.Range.{HasPat}
 use Rattle.hir_store.specs.declared.ids.PatId.{PatId}
-use Rattle.hir_lower_form.specs.Builder.{Builder}
-use Rattle.hir_lower_form.specs.Lower.{lower_later, lower_pat}
-use Rattle.hir_lower_form.specs.Lowering.{Checked}
-use Rattle.hir_lower_form.specs.Pats.{Table, alone, or_form}
+use Rattle.hir_lower_builder.specs.Builder.{Builder}
+use Rattle.hir_lower_builder.specs.Lower.{lower_later, lower_pat}
+use Rattle.hir_lower_builder.specs.Lowering.{Checked}
+use Rattle.hir_lower_builder.specs.Pats.{Table, alone, or_form}
 use Rattle.hir_lower_pat.specs.Bindings.{LowersNamed}
 use Rattle.hir_lower_pat.specs.Methods.{IsPlain, IsUncalled, LowersPat, kind_at, lower_plain}
 use Rattle.hir_lower_pat.specs.declared.bindings.Bindings.{Bindings}
 
-abbrev level : Spot → PatKindLayer written → Pointer → Pat
+abbrev level : ResolveCtx → PatKindLayer written → Pointer → Pat
 level at k s = pat_at at.answers (reader at.answers (into at)) k at.place s
 
 -- what is so of both is so of either
@@ -54,7 +54,7 @@ either_plain : (b : Bool) (p q : Pat) (t : Table) → lower_pat p t ≡ alone (l
 either_plain true p q t h k = h
 either_plain false p q t h k = k
 
-plain_at : (at : Spot) (k : PatKindLayer written) (s : Pointer) (t : Table) → IsPlain k
+plain_at : (at : ResolveCtx) (k : PatKindLayer written) (s : Pointer) (t : Table) → IsPlain k
     → lower_pat (level at k s) t ≡ alone (lower_plain (level at k s)) t
 plain_at at (PatKind-F.PathPat x) s t h = refl
 plain_at at (PatKind-F.LiteralPat None minus) s t h = refl
@@ -77,7 +77,7 @@ plain_at at (PatKind-F.DerefPat x) s t h = absurd h
 plain_at at (PatKind-F.RecordPat x fs dots) s t h = absurd h
 plain_at at (PatKind-F.SlicePat before x after) s t h = absurd h
 
-pub plain_is_alone : (at : Spot) (k : AstPatKind) (s : Pointer) (t : Table) → IsPlain (out-PatKind k)
+pub plain_is_alone : (at : ResolveCtx) (k : AstPatKind) (s : Pointer) (t : Table) → IsPlain (out-PatKind k)
     → lower_pat (kind_at at s k) t ≡ alone (lower_plain (kind_at at s k)) t
 plain_is_alone at k s t h = plain_at at (out-PatKind k) s t h
 
@@ -147,9 +147,9 @@ first_of (y ∷ ys) x h le =
     let rest : length (y ∷ ys) - 1 ≡ length ys = omega arith in
     λ j. sym h j ∷ sym (ap (λ n. take n ys) rest ∙ take_all ys) j
 
-pub of_alternatives : (at : Spot) (s : Pointer) (all : List AstPat) (x : AstPat) (left : List AstPat) (was is : Bindings)
+pub of_alternatives : (at : ResolveCtx) (s : Pointer) (all : List AstPat) (x : AstPat) (left : List AstPat) (was is : Bindings)
     (old new : Builder) (r : Checked PatId) → all ≡ x ∷ left
-    → LowersNamed HasPat (or_form s (lower_pat (answered_pat at x)) (lower_later (pats_part at left))) was old r is new
+    → LowersNamed HasPat (or_form s (lower_pat (resolved_pat at x)) (lower_later (pats_part at left))) was old r is new
     → LowersPat (tree.or_pat s (pats_part at all)) was old r is new
 of_alternatives at s all x left was is old new r e h =
     subst (λ xs. LowersPat (tree.or_pat s (pats_part at xs)) was old r is new) (sym e) h

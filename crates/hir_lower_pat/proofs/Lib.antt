@@ -7,9 +7,9 @@ pub mod Elements
 pub mod CallLemmas
 pub mod Kids
 pub mod OfKinds
-pub mod AimLemmas
-pub mod AimSteps
-pub mod AimTurns
+pub mod AssigneeLemmas
+pub mod AssigneeSteps
+pub mod AssigneeFuel
 pub mod ElementSteps
 pub mod TypeCalls
 pub mod BarePats

@@ -17,23 +17,23 @@ use Rattle.hir_store.specs.declared.name.Name.{Name}
 use Rattle.hir_store.specs.declared.name.Name.TheVariants as name
 use Rattle.hir_store.specs.Range.{Grows, HasBindingId, HasNone}
 use Rattle.hir_store.specs.Stored.{Stored}
-use Rattle.hir_binding.specs.Bindings.{count_with, depth, name_count, noted}
+use Rattle.hir_binding.specs.Bindings.{count_with, depth, name_count, tracked}
 use Rattle.hir_binding.specs.declared.binding.BindingProblems.{BindingProblems}
-use Rattle.hir_env.specs.Answered.{Use}
-use Rattle.hir_lower_form.specs.Builder.{Builder}
-use Rattle.hir_lower_form.specs.Lowering.{Lowers, alloc_binding, go_on, pure, set_problem}
-use Rattle.hir_lower_form.specs.Pats.{Key, Notes, binding_of, key_of, new_binding, note_use, number_of, same_key, use_name}
-use Rattle.hir_lower_form.specs.Pats.{settle_from, use_of_known, with_name, with_use}
+use Rattle.hir_env.specs.ResolvedTree.{Use}
+use Rattle.hir_lower_builder.specs.Builder.{Builder}
+use Rattle.hir_lower_builder.specs.Lowering.{Lowers, alloc_binding, go_on, pure, set_problem}
+use Rattle.hir_lower_builder.specs.Pats.{Key, SideOutput, binding_of, key_of, new_binding, track_use, number_of, same_key, use_name}
+use Rattle.hir_lower_builder.specs.Pats.{settle_from, use_of_known, with_name, with_use}
 use Rattle.hir_lower_pat.specs.Bindings.{HasNames, LowersNamed, SameDepth, table_of}
 use Rattle.hir_lower_pat.specs.declared.bindings.Bindings.{Bindings}
 
 -- what is noted of each is noted of all
-pub all_noted : (f g : Notes) → ((n : ℕ) → f n ≡ g n) → f ≡ g
-all_noted f g h = λ i n. h n i
+pub all_tracked : (f g : SideOutput) → ((n : ℕ) → f n ≡ g n) → f ≡ g
+all_tracked f g h = λ i n. h n i
 
-pub all_noted_on : {A E : Type 0} (r : Result A E) (f g : Notes) → OnOk r ((n : ℕ) → f n ≡ g n) → OnOk r (f ≡ g)
-all_noted_on (Ok a) f g h = all_noted f g h
-all_noted_on (Err e) f g h = tt
+pub all_tracked_on : {A E : Type 0} (r : Result A E) (f g : SideOutput) → OnOk r ((n : ℕ) → f n ≡ g n) → OnOk r (f ≡ g)
+all_tracked_on (Ok a) f g h = all_tracked f g h
+all_tracked_on (Err e) f g h = tt
 
 -- bindings
 
@@ -123,18 +123,19 @@ none_after [] n h = refl
 none_after (y ∷ xs) zero h = cc
 none_after (y ∷ xs) (suc n) h = none_after xs n h
 
-pub settles_entry : (noted : Notes) (n : ℕ) (es : List (Key × BindingId)) (e : Key × BindingId) (b c : Builder) → slice_get es n ≡ Some e
-    → set_problem e.1 (noted n).problem b ≡ (Ok tt, c)
-    → settle_from noted n (drop n es) b ≡ settle_from noted (suc n) (drop (suc n) es) c
-settles_entry noted n es e b c at done =
-    ap (λ xs. settle_from noted n xs b) (drop_entry es n e at)
-    ∙ ap (λ r. go_on r.0 r.1 (λ _. settle_from noted (suc n) (drop (suc n) es))) done
+pub settles_entry : (tracked : SideOutput) (n : ℕ) (es : List (Key × BindingId)) (e : Key × BindingId) (b c : Builder)
+    → slice_get es n ≡ Some e
+    → set_problem e.1 (tracked n).problem b ≡ (Ok tt, c)
+    → settle_from tracked n (drop n es) b ≡ settle_from tracked (suc n) (drop (suc n) es) c
+settles_entry tracked n es e b c at done =
+    ap (λ xs. settle_from tracked n xs b) (drop_entry es n e at)
+    ∙ ap (λ r. go_on r.0 r.1 (λ _. settle_from tracked (suc n) (drop (suc n) es))) done
 
-pub settles_nothing : (noted : Notes) (n : ℕ) (es : List (Key × BindingId)) (b : Builder) → slice_get es n ≡ None
-    → settle_from noted n (drop n es) b ≡ settle_from noted (suc n) (drop (suc n) es) b
-settles_nothing noted n es b at =
-    ap (λ xs. settle_from noted n xs b) (drop_none es n at)
-    ∙ sym (ap (λ xs. settle_from noted (suc n) xs b) (drop_none es (suc n) (none_after es n at)))
+pub settles_nothing : (tracked : SideOutput) (n : ℕ) (es : List (Key × BindingId)) (b : Builder) → slice_get es n ≡ None
+    → settle_from tracked n (drop n es) b ≡ settle_from tracked (suc n) (drop (suc n) es) b
+settles_nothing tracked n es b at =
+    ap (λ xs. settle_from tracked n xs b) (drop_none es n at)
+    ∙ sym (ap (λ xs. settle_from tracked (suc n) xs b) (drop_none es (suc n) (none_after es n at)))
 
 -- uses
 
@@ -144,18 +145,18 @@ stays s = (omega arith, omega arith, omega arith, omega arith, omega arith, omeg
 -- a name that has a binding is used again
 pub used_again : (u : Use) (was is : Bindings) (b : Builder) (id : BindingId) (number : ℕ)
     → binding_of (key_of u) (table_of was) ≡ Some id → number ≡ number_of (key_of u) (table_of was)
-    → number < length was.ids → is.ids ≡ was.ids → noted is.list ≡ note_use number u.mode (noted was.list)
+    → number < length was.ids → is.ids ≡ was.ids → tracked is.list ≡ track_use number u.mode (tracked was.list)
     → name_count is.list ≡ count_with number (name_count was.list) → SameDepth was is → HasNames b.stored was
     → LowersNamed HasBindingId (use_name u) was b (Ok id) is b
 unfolding use_name
-used_again u was is b id number found at within ids notes count deep names =
+used_again u was is b id number found at within ids tracks count deep names =
     let counted : number < name_count was.list = omega (arith, within, names.0) in (
       ap (λ o. use_of_known u (table_of was) o b) found ∙ (λ j. (
         Ok (
           id,
           record {
             bindings = sym ids j;
-            noted = (ap (λ n. note_use n u.mode (noted was.list)) (sym at) ∙ sym notes) j;
+            tracked = (ap (λ n. track_use n u.mode (tracked was.list)) (sym at) ∙ sym tracks) j;
           },
         ),
         b,
@@ -173,11 +174,11 @@ used_again u was is b id number found at within ids notes count deep names =
 pub used_first : (u : Use) (was mid is : Bindings) (b c : Builder) (id : BindingId) (n : Name) → n ≡ u.name
     → Lowers HasBindingId (alloc_binding (record (new_binding u) { name = n })) b (Ok id) c
     → (number : ℕ) → number ≡ length was.ids
-    → mid.ids ≡ was.ids → noted mid.list ≡ note_use number u.mode (noted was.list)
+    → mid.ids ≡ was.ids → tracked mid.list ≡ track_use number u.mode (tracked was.list)
     → name_count mid.list ≡ count_with number (name_count was.list) → SameDepth was mid
     → is.ids ≡ mid.ids ++ (key_of u, id) ∷ [] → is.list ≡ mid.list → HasNames b.stored was
     → LowersNamed HasBindingId (λ t. use_of_known u t None) was b (Ok id) is c
-used_first u was mid is b c id n copied stored number at ids notes count deep entries list names =
+used_first u was mid is b c id n copied stored number at ids tracks count deep entries list names =
     let made : Lowers HasBindingId (alloc_binding (new_binding u)) b (Ok id) c
     = subst (λ m. Lowers HasBindingId (alloc_binding (record (new_binding u) { name = m })) b (Ok id) c) copied stored in
     let all : is.ids ≡ was.ids ++ (key_of u, id) ∷ [] = entries ∙ ap (λ i. i ++ (key_of u, id) ∷ []) ids in
@@ -185,11 +186,11 @@ used_first u was mid is b c id n copied stored number at ids notes count deep en
     = ap length all ∙ length-append was.ids ((key_of u, id) ∷ []) in
     let counted : count_with (length was.ids) (name_count was.list) ≡ length was.ids + 1
     = ap (count_with (length was.ids)) names.0 ∙ next_counted (length was.ids) in
-    let noted_last : noted mid.list ≡ note_use (length was.ids) u.mode (noted was.list)
-    = notes ∙ ap (λ k. note_use k u.mode (noted was.list)) at in
+    let tracked_last : tracked mid.list ≡ track_use (length was.ids) u.mode (tracked was.list)
+    = tracks ∙ ap (λ k. track_use k u.mode (tracked was.list)) at in
     let counted_last = count ∙ ap (λ k. count_with k (name_count was.list)) at in (
       ap (λ r. go_on r.0 r.1 (λ i. pure (i, with_use (length was.ids) u.mode (with_name (key_of u) i (table_of was))))) made.0
-          ∙ (λ j. (Ok (id, record { bindings = sym all j; noted = (sym noted_last ∙ ap noted (sym list)) j }), c)),
+          ∙ (λ j. (Ok (id, record { bindings = sym all j; tracked = (sym tracked_last ∙ ap tracked (sym list)) j }), c)),
       made.1,
       made.2,
       (
@@ -221,14 +222,14 @@ grows_on a b c g h = (
 -- the problems of the first n names are written
 abbrev pub Settled : Bindings → ℕ → Builder → Builder → Type 0
 Settled b n first now =
-    (settle_from (noted b.list) 0 b.ids first ≡ settle_from (noted b.list) n (drop n b.ids) now)
+    (settle_from (tracked b.list) 0 b.ids first ≡ settle_from (tracked b.list) n (drop n b.ids) now)
     × Grows first.stored now.stored × HasNames now.stored b
 
 pub settled_on : (b : Bindings) (n : ℕ) (first old new : Builder) (e : Key × BindingId) (problem : Option BindingProblems)
-    → slice_get b.ids n ≡ Some e → problem ≡ (noted b.list n).problem → Lowers HasNone (set_problem e.1 problem) old (Ok tt) new
+    → slice_get b.ids n ≡ Some e → problem ≡ (tracked b.list n).problem → Lowers HasNone (set_problem e.1 problem) old (Ok tt) new
     → Settled b n first old → Settled b (suc n) first new
 settled_on b n first old new e problem at is (step, more, _) (so_far, grown, names) = (
-  so_far ∙ settles_entry (noted b.list) n b.ids e old new at (ap (λ p. set_problem e.1 p old) (sym is) ∙ step),
+  so_far ∙ settles_entry (tracked b.list) n b.ids e old new at (ap (λ p. set_problem e.1 p old) (sym is) ∙ step),
   grows_on first.stored old.stored new.stored grown more,
   names_grow old.stored new.stored b more names,
 )
@@ -236,4 +237,4 @@ settled_on b n first old new e problem at is (step, more, _) (so_far, grown, nam
 pub settled_past : (b : Bindings) (n : ℕ) (first now : Builder) → slice_get b.ids n ≡ None → Settled b n first now
     → Settled b (suc n) first now
 settled_past b n first now at (so_far, grown, names) =
-    (so_far ∙ settles_nothing (noted b.list) n b.ids now at, grown, names)
+    (so_far ∙ settles_nothing (tracked b.list) n b.ids now at, grown, names)

@@ -1,4 +1,4 @@
--- The parts of a pattern, and of what is assigned to, are smaller than the whole, as they are answered.
+-- The parts of a pattern, and of the assignee expression, are smaller than the whole, as they are answered.
 use Rattle.std.proofs.Common.{arith, ◌≡◌, ◌∙◌, ap, refl, ℕ, ◌+◌, ◌<◌, ◌≤◌}
 use Rattle.std.proofs.Common.{Bool, ◌&&◌, List, [], ◌∷◌, Option, Some, None}
 use Rattle.std.specs.Prelude.{Result, Ok, Err}
@@ -17,8 +17,8 @@ use Rattle.hir_store.specs.Names.{IsWritten}
 use Rattle.hir_store.specs.Pointers.{Pointer}
 use Rattle.hir_store.specs.declared.ids.CfgId.{CfgId}
 use Rattle.hir_env.specs.Answers.{Answers}
-use Rattle.hir_env.specs.Answered as tree
-use Rattle.hir_env.specs.Answered.{Field, PatField, Use}
+use Rattle.hir_env.specs.ResolvedTree as tree
+use Rattle.hir_env.specs.ResolvedTree.{Field, PatField, Use}
 use Rattle.hir_env.specs.Answering.{asked_field, expr_at, field_of, name_written}
 use Rattle.hir_env.specs.Calls.{entered_expr, entered_pat}
 use Rattle.hir_env.specs.Count.{count_expr, count_exprs, count_field, count_fields, count_option_expr, count_option_path, count_path}
@@ -26,20 +26,20 @@ use Rattle.hir_env.specs.Count.{count_option_pat, count_pat, count_pat_field, co
 use Rattle.hir_env.specs.Layers.{Entering, ExprKindLayer}
 use Rattle.hir_env.specs.PatLayers.{PatKindLayer}
 use Rattle.hir_env.specs.Pats.{asked_pat_field, name_or_bind, pat_at, pat_field_of, side_of, use_at}
-use Rattle.hir_env.specs.Spot.{site_of}
+use Rattle.hir_env.specs.ResolveCtx.{site_of}
 use Rattle.hir_env.specs.TypePats.{is_plain}
-use Rattle.hir_env.specs.Whole.{answered, answered_field, answered_pat, answered_pat_field, answered_path, expr_part, exprs_part}
+use Rattle.hir_env.specs.Whole.{resolved_expr, resolved_field, resolved_pat, resolved_pat_field, resolved_path, expr_part, exprs_part}
 use Rattle.hir_env.specs.Whole.{fields_part, into, pat_fields_part, pat_part, path_part, pats_part, pointer_at, reader}
 use Rattle.hir_env.specs.Whole.{elements_part, record_part, written}
-use Rattle.hir_env.specs.declared.place.Place.{Place}
+use Rattle.hir_env.specs.declared.ctx.LowerCtx.{LowerCtx}
 use Rattle.hir_env.proofs.Levels.{field_is_level, record_is_level}
 use Rattle.hir_env.proofs.PatLevels.{pat_field_is_level, pat_is_level}
-use Rattle.hir_lower_form.specs.Nests.{Claims, Each, IfPresent, KidsOfPat, KidsPatFields, KidsSide, KidsSidePart}
-use Rattle.hir_lower_form.specs.Nests.{KidsTarget, KidsTargetFields}
-use Rattle.hir_lower_form.specs.Inside.{InPatCall, InTargetCall, inside_pat_call}
-use Rattle.hir_lower_form.proofs.Inside.{call_more}
+use Rattle.hir_lower_builder.specs.Nests.{Claims, Each, IfPresent, KidsOfPat, KidsPatFields, KidsSide, KidsSidePart}
+use Rattle.hir_lower_builder.specs.Nests.{KidsTarget, KidsTargetFields}
+use Rattle.hir_lower_builder.specs.Inside.{InPatCall, InTargetCall, inside_pat_call}
+use Rattle.hir_lower_builder.proofs.Inside.{call_more}
 use Rattle.hir_lower_pat.specs.Nested.{InPat, InTarget, read_at}
-use Rattle.hir_lower_pat.proofs.AimLemmas.{kept_below}
+use Rattle.hir_lower_pat.proofs.AssigneeLemmas.{kept_below}
 use Rattle.hir_lower_pat.proofs.Elements.{count_in}
 
 -- a condition counts for nothing
@@ -53,18 +53,18 @@ count_kept_part s (Err by) f = refl
 
 -- patterns
 
-module _ (env : Answers) (Q : Place → AstPath → Type 0) (p : Place) (n : ℕ)
-    (paths : (q : Place) (x : AstPath) → count_path (answered_path (read_at env q) x) < n → Q q x) where
+module _ (env : Answers) (Q : LowerCtx → AstPath → Type 0) (p : LowerCtx) (n : ℕ)
+    (paths : (q : LowerCtx) (x : AstPath) → count_path (resolved_path (read_at env q) x) < n → Q q x) where
   path : (o : Option AstPath) → count_option_path (path_part (read_at env p) o) < n → IfPresent (Q p) o
   path None h = tt
   path (Some x) h = paths p x h
 
-  whole : (x : AstPat) → count_pat (answered_pat (read_at env p) x) ≤ n → InPat env Q p x
+  whole : (x : AstPat) → count_pat (resolved_pat (read_at env p) x) ≤ n → InPat env Q p x
   whole x h q y less = paths q y (omega (arith, h, less))
 
   -- what a call stands for is smaller than the call
   in_call : (c : AstMacroCall) (s : Pointer) (o : Option Entering) → count_pat (entered_pat env o c p s) ≤ n
-      → (q : Place) (y : AstPath) → count_path (answered_path (read_at env q) y) < count_option_pat (inside_pat_call env o p c) → Q q y
+      → (q : LowerCtx) (y : AstPath) → count_path (resolved_path (read_at env q) y) < count_option_pat (inside_pat_call env o p c) → Q q y
   in_call c s None h q y less = absurd (omega (arith, less))
   in_call c s (Some into) h q y less = paths q y (omega (arith, h, less))
 
@@ -79,7 +79,7 @@ module _ (env : Answers) (Q : Place → AstPath → Type 0) (p : Place) (n : ℕ
   each_element : (xs : List AstPat) → count_pats (elements_part (read_at env p) xs) ≤ n → Each (InPat env Q p) xs
   each_element [] h = tt
   each_element (x ∷ xs) h =
-      let same = count_in (answered_pat (read_at env p) x) (elements_part (read_at env p) xs) in
+      let same = count_in (resolved_pat (read_at env p) x) (elements_part (read_at env p) xs) in
       (whole x (omega (arith, h, same)), each_element xs (omega (arith, h, same)))
 
   -- a field without its part counts for nothing
@@ -88,14 +88,14 @@ module _ (env : Answers) (Q : Place → AstPath → Type 0) (p : Place) (n : ℕ
   own s m None h = tt
   own s m (Some x) h = whole x h
 
-  field : (f : AstPatField) → count_pat_field (answered_pat_field (read_at env p) f) ≤ n
+  field : (f : AstPatField) → count_pat_field (resolved_pat_field (read_at env p) f) ≤ n
       → IfPresent (InPat env Q p) (out-RecordPatField f).pat
   field f h =
       let at = read_at env p in
       let y = out-RecordPatField f in
       let s = pointer_at at y.id y.range in
       let read = pat_field_of s y.name (pat_part at y.pat) in
-      let same : count_pat_field (answered_pat_field at f) ≡ count_pat_field read =
+      let same : count_pat_field (resolved_pat_field at f) ≡ count_pat_field read =
       ap count_pat_field (pat_field_is_level at f) ∙ count_kept_part s (env.cfg (site_of s)) read in
       own s y.name y.pat (omega (arith, h, same))
 
@@ -164,27 +164,27 @@ module _ (env : Answers) (Q : Place → AstPath → Type 0) (p : Place) (n : ℕ
   kids s PatKind-F.ConstBlockPat h = tt
 
 -- what may be handed in may be gone into
-pub pat_nests : (env : Answers) (Q : Place → AstPath → Type 0) (p : Place) (x : AstPat) → InPat env Q p x
+pub pat_nests : (env : Answers) (Q : LowerCtx → AstPath → Type 0) (p : LowerCtx) (x : AstPat) → InPat env Q p x
     → KidsOfPat (InPat env Q p) (Q p) (InPatCall env Q p) (out-PatKind x.kind)
 pat_nests env Q p x c =
     let at = read_at env p in
     let same = ap count_pat (pat_is_level at x) in
-    kids env Q p (count_pat (answered_pat at x)) c (pointer_at at x.id x.range) (out-PatKind x.kind) (omega (arith, same))
+    kids env Q p (count_pat (resolved_pat at x)) c (pointer_at at x.id x.range) (out-PatKind x.kind) (omega (arith, same))
 
--- what is assigned to
+-- the assignee expression
 
--- the claims with these of paths and of what is assigned to
-abbrev claims : Claims → Answers → (Place → AstExpr → Type 0) → (Place → AstPath → Type 0) → Claims
+-- the claims with these of paths and of the assignee expression
+abbrev claims : Claims → Answers → (LowerCtx → AstExpr → Type 0) → (LowerCtx → AstPath → Type 0) → Claims
 claims C env P Q = record C { path = Q; target = InTarget env P Q; target_call = InTargetCall env P Q }
 
-module _ (C : Claims) (env : Answers) (P : Place → AstExpr → Type 0) (Q : Place → AstPath → Type 0) (p : Place) (n : ℕ)
-    (exprs : (q : Place) (x : AstExpr) → count_expr (answered (read_at env q) x) ≤ n → P q x)
-    (paths : (q : Place) (y : AstPath) → count_path (answered_path (read_at env q) y) < n → Q q y) where
+module _ (C : Claims) (env : Answers) (P : LowerCtx → AstExpr → Type 0) (Q : LowerCtx → AstPath → Type 0) (p : LowerCtx) (n : ℕ)
+    (exprs : (q : LowerCtx) (x : AstExpr) → count_expr (resolved_expr (read_at env q) x) ≤ n → P q x)
+    (paths : (q : LowerCtx) (y : AstPath) → count_path (resolved_path (read_at env q) y) < n → Q q y) where
   target_path : (o : Option AstPath) → count_option_path (path_part (read_at env p) o) < n → IfPresent (Q p) o
   target_path None h = tt
   target_path (Some x) h = paths p x h
 
-  target : (e : AstExpr) → count_expr (answered (read_at env p) e) ≤ n → InTarget env P Q p e
+  target : (e : AstExpr) → count_expr (resolved_expr (read_at env p) e) ≤ n → InTarget env P Q p e
   target e h = (λ q x less. exprs q x (omega (arith, h, less)), λ q y less. paths q y (omega (arith, h, less)))
 
   target_part : (o : Option AstExpr) → count_option_expr (expr_part (read_at env p) o) ≤ n → IfPresent (InTarget env P Q p) o
@@ -201,14 +201,14 @@ module _ (C : Claims) (env : Answers) (P : Place → AstExpr → Type 0) (Q : Pl
   named s None o h = target_part o h
   named s (Some m) o h = target_part o h
 
-  target_field : (f : AstField) → count_field (answered_field (read_at env p) f) ≤ n
+  target_field : (f : AstField) → count_field (resolved_field (read_at env p) f) ≤ n
       → IfPresent (InTarget env P Q p) (out-RecordExprField f).expr
   target_field f h =
       let at = read_at env p in
       let y = out-RecordExprField f in
       let s = pointer_at at y.id y.range in
       let read = field_of s y.name (expr_part at y.expr) in
-      let same : count_field (answered_field at f) ≡ count_field read =
+      let same : count_field (resolved_field at f) ≡ count_field read =
       ap count_field (field_is_level at f) ∙ count_kept s (env.cfg (site_of s)) read in
       named s y.name y.expr (omega (arith, h, same))
 
@@ -277,13 +277,14 @@ module _ (C : Claims) (env : Answers) (P : Place → AstExpr → Type 0) (Q : Pl
   target_kids s ExprKind-F.FormatArgsExpr h = tt
 
 -- what may be handed in may be gone into
-pub target_nests : (C : Claims) (env : Answers) (P : Place → AstExpr → Type 0) (Q : Place → AstPath → Type 0) (p : Place) (e : AstExpr)
+pub target_nests : (C : Claims) (env : Answers) (P : LowerCtx → AstExpr → Type 0) (Q : LowerCtx → AstPath → Type 0) (p : LowerCtx)
+    (e : AstExpr)
     → InTarget env P Q p e → KidsTarget (claims C env P Q) p (out-ExprKind e.kind)
 target_nests C env P Q p e c =
     let at = read_at env p in
-    target_kids C env P Q p (count_expr (answered at e)) c.0 c.1 (pointer_at at e.id e.range) (out-ExprKind e.kind) (kept_below at e)
+    target_kids C env P Q p (count_expr (resolved_expr at e)) c.0 c.1 (pointer_at at e.id e.range) (out-ExprKind e.kind) (kept_below at e)
 
--- what is assigned to may be a place
-pub target_is_place : (env : Answers) (P : Place → AstExpr → Type 0) (Q : Place → AstPath → Type 0) (p : Place) (e : AstExpr)
+-- the assignee expression may be a place
+pub target_is_place : (env : Answers) (P : LowerCtx → AstExpr → Type 0) (Q : LowerCtx → AstPath → Type 0) (p : LowerCtx) (e : AstExpr)
     → InTarget env P Q p e → P p e
 target_is_place env P Q p e c = c.0 p e (omega arith)

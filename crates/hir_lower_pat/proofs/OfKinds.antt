@@ -12,14 +12,15 @@ use Rattle.hir_store.specs.declared.ids.LangItemId.{LangItemId}
 use Rattle.hir_env.specs.Answers.{Answers}
 use Rattle.hir_env.specs.Calls.{around, around_if, asked_call, call_pointer, called, entered_expr, expr_in, gone_in}
 use Rattle.hir_env.specs.Layers.{Entering}
-use Rattle.hir_env.specs.Spot.{Spot}
-use Rattle.hir_env.specs.Answered as tree
-use Rattle.hir_env.specs.Answered.{Block, Called, Constant, Expr, ForItems, Gone, IsWrittenLabel, Label, OptionExpr, OptionPat, OptionType}
-use Rattle.hir_env.specs.Answered.{Params, QuestionItems, Stmts}
+use Rattle.hir_env.specs.ResolveCtx.{ResolveCtx}
+use Rattle.hir_env.specs.ResolvedTree as tree
+use Rattle.hir_env.specs.ResolvedTree.{Block, Called, Constant, Expr, ForItems, Gone, IsWrittenLabel, Label, OptionExpr, OptionPat}
+use Rattle.hir_env.specs.ResolvedTree.{OptionType}
+use Rattle.hir_env.specs.ResolvedTree.{Params, QuestionItems, Stmts}
 use Rattle.hir_env.specs.Answering.{asked, closure_of, for_of, question_of}
 use Rattle.hir_env.specs.Whole.{own_level}
 use Rattle.hir_env.specs.declared.expand.FragmentKind.TheVariants as fragment
-use Rattle.hir_env.specs.declared.place.Place.{Place}
+use Rattle.hir_env.specs.declared.ctx.LowerCtx.{LowerCtx}
 
 pub through_asked : {A : Type 0} (f : Expr → A) → ((why : Gone) (e : Expr) → f (tree.disabled_expr why e) ≡ f e)
     → (s : Pointer) (r : Result (Unit {0}) CfgId) (e : Expr) → f (asked s r e) ≡ f e
@@ -50,7 +51,7 @@ pub of_own : {A : Type 0} (f : Expr → A) (a : A) → ((b : Block) → f (tree.
     → ((s : Pointer) (c : Constant) → f (tree.const_expr s c) ≡ a)
     → ((s : Pointer) (kind : CoroutineKind) (moves : Bool) (number : Option BlockId) (ss : Stmts) (e : OptionExpr)
     → f (tree.coroutine_expr s kind moves number ss e) ≡ a)
-    → (at : Spot) (m : Option BlockModifier) (b : AstBlockExpr) → f (own_level at m b) ≡ a
+    → (at : ResolveCtx) (m : Option BlockModifier) (b : AstBlockExpr) → f (own_level at m b) ≡ a
 of_own f a h k j l at None b = h _
 of_own f a h k j l at (Some modifier.Unsafe) b = h _
 of_own f a h k j l at (Some modifier.Try) b = k _ _ _ _ _ _
@@ -81,7 +82,7 @@ module _ {A : Type 0} (f : Expr → A) (a : A) (h : (s : Pointer) (c : Called) (
   of_around s c tree.no_expr = h s c tree.no_expr
   of_around s c (tree.some_expr e) = of_around_if (gone_in e) s c (tree.some_expr e)
 
-  pub of_called : (env : Answers) (into : Option Entering) (c : AstMacroCall) (p : Place) (s : Pointer)
+  pub of_called : (env : Answers) (into : Option Entering) (c : AstMacroCall) (p : LowerCtx) (s : Pointer)
       → f (entered_expr env into c p s) ≡ a
   of_called env None c p s = h s tree.unentered tree.no_expr
   of_called env (Some into) c p s = let x = asked_call env fragment.Expr c p in of_around s (called (call_pointer p c) x) (expr_in into p x)

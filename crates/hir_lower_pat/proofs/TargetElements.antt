@@ -1,4 +1,4 @@
--- The elements of what is assigned to, and callees: what is told of the calls that they come out of, and what these come to.
+-- The elements of the assignee expression, and callees: what is told of the calls that they come out of, and what these come to.
 use Rattle.std.proofs.Common.{sym, true≢false, is_some}
 use Rattle.std.proofs.Common.{◌≡◌, ◌∙◌, ap, refl, ℕ, zero, suc, Bool, true, false, [], Option, Some, None, Ok, Err}
 use Rattle.std.specs.Prelude.{Result, if◌then◌else◌, option_map}
@@ -17,29 +17,29 @@ use Rattle.hir_store.specs.declared.ids.PatId.{PatId}
 use Rattle.hir_store.specs.declared.pat.Pat.TheVariants as pat
 use Rattle.hir_store.specs.declared.path.ModPath.{ModPath}
 use Rattle.hir_env.specs.Answers.{Expanding, unresolved, no_expansion, expanded}
-use Rattle.hir_env.specs.Answered as tree
-use Rattle.hir_env.specs.Answered.{Called, Entered, Expr, Gone, OptionExpr, OptionPath, Origin, Path, Target, Targets}
+use Rattle.hir_env.specs.ResolvedTree as tree
+use Rattle.hir_env.specs.ResolvedTree.{Called, Entered, Expr, Gone, OptionExpr, OptionPath, Origin, Path, Target, Targets}
 use Rattle.hir_env.specs.Answering.{asked, coroutine_kind, expr_at, for_items, question_items}
 use Rattle.hir_env.specs.Calls.{around, around_if, asked_call, call_pointer, called, entered_expr, expr_in, gone_in, inside_file}
 use Rattle.hir_env.specs.Calls.{lacking_call}
 use Rattle.hir_env.specs.Layers.{Entering, ExprKindLayer}
 use Rattle.hir_env.specs.PathNames.{mod_path_of}
-use Rattle.hir_env.specs.Spot.{Spot, site_of}
-use Rattle.hir_env.specs.Targets.{around_callee, callee_path, comes_to_dots, element_of, element_or, is_dots, names_target, noted_in}
+use Rattle.hir_env.specs.ResolveCtx.{ResolveCtx, site_of}
+use Rattle.hir_env.specs.Targets.{around_callee, callee_path, comes_to_dots, element_of, element_or, is_dots, names_target, tracked_in}
 use Rattle.hir_env.specs.Targets.{origin, outermost}
-use Rattle.hir_env.specs.Whole.{answered, entering, into, kept_expr, path_part, pointer_at, reader, written}
+use Rattle.hir_env.specs.Whole.{resolved_expr, entering, into, kept_expr, path_part, pointer_at, reader, written}
 use Rattle.hir_env.specs.declared.expand.FragmentKind.TheVariants as kind
 use Rattle.hir_env.proofs.Levels.{block_is_level, expr_is_level}
-use Rattle.hir_lower_form.specs.Builder.{Builder}
-use Rattle.hir_lower_form.specs.Calls.{Found, enter_left, found_in, note, told}
-use Rattle.hir_lower_form.specs.Families.{IsNoCall}
-use Rattle.hir_lower_form.specs.Forms.{some}
-use Rattle.hir_lower_form.specs.Lowering.{Checked, Lowering, ◌>>=◌, ◌>>◌, go_on, pure}
-use Rattle.hir_lower_form.specs.Lower.{lower_target, lower_targets}
-use Rattle.hir_lower_form.specs.Methods.{at_place}
-use Rattle.hir_lower_form.specs.Pats.{Elements}
-use Rattle.hir_lower_form.specs.Targets.{alloc_target, missing_target}
-use Rattle.hir_lower_pat.specs.Aims.{aimed, element_found, found_at, noted, patterned}
+use Rattle.hir_lower_builder.specs.Builder.{Builder}
+use Rattle.hir_lower_builder.specs.Calls.{Found, enter_left, found_in, track, emitted}
+use Rattle.hir_lower_builder.specs.Families.{IsNoCall}
+use Rattle.hir_lower_builder.specs.Forms.{some}
+use Rattle.hir_lower_builder.specs.Lowering.{Checked, Lowering, ◌>>=◌, ◌>>◌, go_on, pure}
+use Rattle.hir_lower_builder.specs.Lower.{lower_target, lower_targets}
+use Rattle.hir_lower_builder.specs.Methods.{at_place}
+use Rattle.hir_lower_builder.specs.Pats.{Elements}
+use Rattle.hir_lower_builder.specs.Targets.{alloc_target, missing_target}
+use Rattle.hir_lower_pat.specs.Assignees.{target_or_place, element_found, found_at, track_calls, target_assignee}
 use Rattle.hir_lower_pat.specs.Calls.{expr_there, target_element_there, written_expr}
 use Rattle.hir_lower_pat.specs.TargetLists.{element_call}
 use Rattle.hir_lower_pat.proofs.CallLemmas.{found_on, fresh}
@@ -48,11 +48,11 @@ use Rattle.hir_lower_pat.proofs.OfKinds.{of_closure, of_for, of_own, of_question
 -- steps behind what is told
 
 -- the same steps, one behind the other
-pub after_told : {A : Type 0} (o : Checked (Unit {0})) (b : Builder) (p : Lowering (Unit {0})) (q m : Lowering A)
+pub after_emitted : {A : Type 0} (o : Checked (Unit {0})) (b : Builder) (p : Lowering (Unit {0})) (q m : Lowering A)
     → ((c : Builder) → m c ≡ (p >> q) c)
     → go_on o b (λ _. m) ≡ go_on (go_on o b (λ _. p)).0 (go_on o b (λ _. p)).1 (λ _. q)
-after_told (Ok _) b p q m h = h b
-after_told (Err e) b p q m h = refl
+after_emitted (Ok _) b p q m h = h b
+after_emitted (Err e) b p q m h = refl
 
 -- steps behind steps behind what is told
 pub then_on : {A B : Type 0} (o : Checked (Unit {0})) (b : Builder) (p : Lowering A) (q : A → Lowering B)
@@ -62,34 +62,34 @@ then_on (Err e) b p q = refl
 
 -- what is told in front of two dots, and in front of the path of a callee
 
-pub noted_lowers : (e : Expr) (ts : Targets) (done : Elements) (b : Builder) → comes_to_dots e ≡ true
-    → lower_targets done (noted_in e ts) b ≡ (noted e >> lower_targets done ts) b
-noted_lowers (tree.disabled_expr why e) ts done b h = noted_lowers e ts done b h
-noted_lowers (tree.macro_expr s c tree.no_expr) ts done b h = absurd (true≢false (sym h))
-noted_lowers (tree.macro_expr s c (tree.some_expr e)) ts done b h =
-    let o = told c b in
-    after_told o.0 o.1 (noted e) (lower_targets done ts) (lower_targets done (noted_in e ts)) (λ d. noted_lowers e ts done d h)
-noted_lowers (tree.range_expr at form tree.no_expr tree.no_expr) ts done b h = refl
-noted_lowers _ ts done b h = absurd (true≢false (sym h))
+pub tracked_lowers : (e : Expr) (ts : Targets) (done : Elements) (b : Builder) → comes_to_dots e ≡ true
+    → lower_targets done (tracked_in e ts) b ≡ (track_calls e >> lower_targets done ts) b
+tracked_lowers (tree.disabled_expr why e) ts done b h = tracked_lowers e ts done b h
+tracked_lowers (tree.macro_expr s c tree.no_expr) ts done b h = absurd (true≢false (sym h))
+tracked_lowers (tree.macro_expr s c (tree.some_expr e)) ts done b h =
+    let o = emitted c b in
+    after_emitted o.0 o.1 (track_calls e) (lower_targets done ts) (lower_targets done (tracked_in e ts)) (λ d. tracked_lowers e ts done d h)
+tracked_lowers (tree.range_expr at form tree.no_expr tree.no_expr) ts done b h = refl
+tracked_lowers _ ts done b h = absurd (true≢false (sym h))
 
 pub callee_lowers : (e : Expr) (t : Target) (p : OptionPath) (b : Builder) → callee_path e ≡ Some p
-    → lower_target (around_callee e t) b ≡ (noted e >> lower_target t) b
+    → lower_target (around_callee e t) b ≡ (track_calls e >> lower_target t) b
 callee_lowers (tree.disabled_expr why e) t p b h = callee_lowers e t p b h
 callee_lowers (tree.macro_expr s c tree.no_expr) t p b h = absurd (true≢false (sym (ap is_some h)))
 callee_lowers (tree.macro_expr s c (tree.some_expr e)) t p b h =
-    let o = told c b in
-    after_told o.0 o.1 (noted e) (lower_target t) (lower_target (around_callee e t)) (λ d. callee_lowers e t p d h)
+    let o = emitted c b in
+    after_emitted o.0 o.1 (track_calls e) (lower_target t) (lower_target (around_callee e t)) (λ d. callee_lowers e t p d h)
 callee_lowers (tree.path_expr at x k) t p b h = refl
 callee_lowers _ t p b h = absurd (true≢false (sym (ap is_some h)))
 
 -- a call through calls is a target of its own
-pub callee_aims : (e : Expr) (at : Origin) (q : OptionPath) (ts : Targets) (x : Expr) (p : OptionPath) → callee_path e ≡ Some p
-    → aimed (around_callee e (tree.call_target at q ts)) x ≡ patterned (around_callee e (tree.call_target at q ts))
-callee_aims (tree.disabled_expr why e) at q ts x p h = callee_aims e at q ts x p h
-callee_aims (tree.macro_expr s c tree.no_expr) at q ts x p h = absurd (true≢false (sym (ap is_some h)))
-callee_aims (tree.macro_expr s c (tree.some_expr e)) at q ts x p h = refl
-callee_aims (tree.path_expr s y k) at q ts x p h = refl
-callee_aims _ at q ts x p h = absurd (true≢false (sym (ap is_some h)))
+pub callee_assignees : (e : Expr) (at : Origin) (q : OptionPath) (ts : Targets) (x : Expr) (p : OptionPath) → callee_path e ≡ Some p
+    → target_or_place (around_callee e (tree.call_target at q ts)) x ≡ target_assignee (around_callee e (tree.call_target at q ts))
+callee_assignees (tree.disabled_expr why e) at q ts x p h = callee_assignees e at q ts x p h
+callee_assignees (tree.macro_expr s c tree.no_expr) at q ts x p h = absurd (true≢false (sym (ap is_some h)))
+callee_assignees (tree.macro_expr s c (tree.some_expr e)) at q ts x p h = refl
+callee_assignees (tree.path_expr s y k) at q ts x p h = refl
+callee_assignees _ at q ts x p h = absurd (true≢false (sym (ap is_some h)))
 
 -- an element that is a call, whatever disables it
 
@@ -114,7 +114,7 @@ module _ (f : Path → Bool) (call : Option Pointer) where
   gone_found why s c tree.no_expr = refl
   gone_found why s c (tree.some_expr e) = gone_if_found why (gone_in e) s c (tree.some_expr e)
 
-  pub asked_found : (at : Spot) (s t : Pointer) (c : AstMacroCall) (r : Result (Unit {0}) CfgId)
+  pub asked_found : (at : ResolveCtx) (s t : Pointer) (c : AstMacroCall) (r : Result (Unit {0}) CfgId)
       → element_found f call (asked t r (written_expr at s c)) ≡ element_found f call (written_expr at s c)
   asked_found at s t c (Ok _) = refl
   asked_found at s t c (Err by) = entered_found (into at)
@@ -133,20 +133,20 @@ module _ (f : Path → Bool) (call : Option Pointer) where
   -- told, and then the element inside of it
   pub inner_found : (s : Pointer) (c : Entered) (e : Expr) (b : Builder)
       → element_found f call (tree.macro_expr s (tree.entered c) (tree.some_expr e)) b
-      ≡ (note c >> element_found f (Some (outermost call s)) e) b
+      ≡ (track c >> element_found f (Some (outermost call s)) e) b
   inner_found s c e b = by (comes_to_dots e)
     where
       inner : Lowering PatId
       inner = lower_target (element_of f (Some (outermost call s)) e)
 
       by : (d : Bool)
-          → (if d then (note c >> noted e) >> pure None else some (note c >> inner)) b
-          ≡ (note c >> (if d then noted e >> pure None else some inner)) b
-      by true = then_on (note c b).0 (note c b).1 (noted e) (λ _. pure None)
-      by false = then_on (note c b).0 (note c b).1 inner (λ i. pure (Some i))
+          → (if d then (track c >> track_calls e) >> pure None else some (track c >> inner)) b
+          ≡ (track c >> (if d then track_calls e >> pure None else some inner)) b
+      by true = then_on (track c b).0 (track c b).1 (track_calls e) (λ _. pure None)
+      by false = then_on (track c b).0 (track c b).1 inner (λ i. pure (Some i))
 
 -- a path that is read inside of a call stands for the same
-pub found_inside : (at : Spot) (f : HirFileId) (n : ℕ) → found_at (at_place at (inside_file f n at.place)) ≡ found_at at
+pub found_inside : (at : ResolveCtx) (f : HirFileId) (n : ℕ) → found_at (at_place at (inside_file f n at.place)) ≡ found_at at
 found_inside at f n = λ j x. by (mod_path_of (tree.some_path x)) j
   where
     by : (o : Option ModPath)
@@ -154,7 +154,7 @@ found_inside at f n = λ j x. by (mod_path_of (tree.some_path x)) j
     by None = refl
     by (Some names) = refl
 
-module _ (at : Spot) (call : Option Pointer) (s : Pointer) where
+module _ (at : ResolveCtx) (call : Option Pointer) (s : Pointer) where
   abbrev outer : Pointer
   outer = outermost call s
 
@@ -170,28 +170,28 @@ module _ (at : Spot) (call : Option Pointer) (s : Pointer) where
 
   found_by : (c : Pointer) (n : ℕ) (x : Expanding) (b : Builder)
       → element_found (found_at at) call (around s (called c x) (expr_in (fresh at.answers n) at.place x)) b
-      ≡ ((told (called c x) >> pure (found_in n at.place x)) >>= there) b
-  found_by c n (unresolved y) b = let o = told (tree.unresolved c y) b in none_found o.0 o.1 None refl
+      ≡ ((emitted (called c x) >> pure (found_in n at.place x)) >>= there) b
+  found_by c n (unresolved y) b = let o = emitted (tree.unresolved c y) b in none_found o.0 o.1 None refl
   found_by c n no_expansion b = none_found (Ok tt) b None refl
   found_by c n (expanded f None es) b =
-      let o = note (record { call = c; file = f; eager = es }) b in none_found o.0 o.1 (Some (inside_file f n at.place, None)) refl
+      let o = track (record { call = c; file = f; eager = es }) b in none_found o.0 o.1 (Some (inside_file f n at.place, None)) refl
   found_by c n (expanded f (Some (fragment.Expr e)) es) b =
       let entered : Entered = record { call = c; file = f; eager = es } in
-      let o = note entered b in
+      let o = track entered b in
       let place = inside_file f n at.place in
-      let inner = answered (at_place at place) e in
+      let inner = resolved_expr (at_place at place) e in
       ap (λ m. m b) (around_found (found_at at) call s (tree.entered entered) (tree.some_expr inner))
       ∙ (inner_found (found_at at) call s entered inner b
       ∙ found_on o.0 o.1 (Some (place, Some (fragment.Expr e))) there (element_found (found_at at) (Some outer) inner)
       (ap (λ g. element_found g (Some outer) inner) (found_inside at f n)))
   found_by c n (expanded f (Some (fragment.Stmts e)) es) b =
-      let o = note (record { call = c; file = f; eager = es }) b in
+      let o = track (record { call = c; file = f; eager = es }) b in
       none_found o.0 o.1 (Some (inside_file f n at.place, Some (fragment.Stmts e))) refl
   found_by c n (expanded f (Some (fragment.Pat e)) es) b =
-      let o = note (record { call = c; file = f; eager = es }) b in
+      let o = track (record { call = c; file = f; eager = es }) b in
       none_found o.0 o.1 (Some (inside_file f n at.place, Some (fragment.Pat e))) refl
   found_by c n (expanded f (Some (fragment.Type_ e)) es) b =
-      let o = note (record { call = c; file = f; eager = es }) b in
+      let o = track (record { call = c; file = f; eager = es }) b in
       none_found o.0 o.1 (Some (inside_file f n at.place, Some (fragment.Type_ e))) refl
 
   pub element_on : (c : AstMacroCall) (b : Builder)
@@ -205,28 +205,28 @@ module _ (at : Spot) (call : Option Pointer) (s : Pointer) where
 
 -- by their kinds
 
-abbrev level : Spot → ExprKindLayer written → Pointer → Expr
+abbrev level : ResolveCtx → ExprKindLayer written → Pointer → Expr
 level at k s = expr_at at.answers (reader at.answers (into at)) k at.place s
 
-module _ (at : Spot) (call : Option Pointer) (e : AstExpr) where
+module _ (at : ResolveCtx) (call : Option Pointer) (e : AstExpr) where
   abbrev node : Pointer
   node = pointer_at at e.id e.range
 
   abbrev condition : Result (Unit {0}) CfgId
   condition = at.answers.cfg (site_of node)
 
-  pub leveled : (k : ExprKindLayer written) → out-ExprKind e.kind ≡ k → answered at e ≡ asked node condition (level at k node)
+  pub leveled : (k : ExprKindLayer written) → out-ExprKind e.kind ≡ k → resolved_expr at e ≡ asked node condition (level at k node)
   leveled k h = expr_is_level at e ∙ ap (λ l. asked node condition (level at l node)) h
 
   pub call_element : (c : AstMacroCall) (b : Builder) → out-ExprKind e.kind ≡ ExprKind-F.MacroExpr (Some c)
-      → element_found (found_at at) call (answered at e) b ≡ element_call at (outermost call node) c b
+      → element_found (found_at at) call (resolved_expr at e) b ≡ element_call at (outermost call node) c b
   call_element c b h =
       ap (λ x. element_found (found_at at) call x b) (leveled _ h)
       ∙ (ap (λ m. m b) (asked_found (found_at at) call at node node c condition) ∙ element_on at call node c b)
 
   -- one that the text lacks
   pub lacking_element : (b : Builder) → out-ExprKind e.kind ≡ ExprKind-F.MacroExpr None
-      → element_found (found_at at) call (answered at e) b ≡ some (alloc_target pat.Missing (origin call node)) b
+      → element_found (found_at at) call (resolved_expr at e) b ≡ some (alloc_target pat.Missing (origin call node)) b
   unfolding alloc_target
   lacking_element b h = ap (λ x. element_found (found_at at) call x b) (leveled _ h) ∙ by condition
     where
@@ -253,7 +253,7 @@ own_dots (tree.macro_expr s c e) h = absurd (true≢false h)
 own_dots (tree.range_expr at form tree.no_expr tree.no_expr) h = refl
 own_dots _ h = refl
 
-untold : (e : Expr) → is_called e ≡ false → noted e ≡ pure tt
+untold : (e : Expr) → is_called e ≡ false → track_calls e ≡ pure tt
 untold (tree.disabled_expr why e) h = untold e h
 untold (tree.macro_expr s c e) h = absurd (true≢false h)
 untold _ h = refl
@@ -281,47 +281,48 @@ standing e = (is_called e, own_path e)
 abbrev nothing : Bool × Option OptionPath
 nothing = (false, None)
 
-stands_at : (at : Spot) (k : ExprKindLayer written) (s : Pointer) → IsNoCall k
+corresponds_at : (at : ResolveCtx) (k : ExprKindLayer written) (s : Pointer) → IsNoCall k
     → standing (level at k s) ≡ (false, option_map (path_part at) (path_of_callee k))
-stands_at at (ExprKind-F.MacroExpr c) s h = absurd h
-stands_at at (ExprKind-F.BlockExpr b) s h =
+corresponds_at at (ExprKind-F.MacroExpr c) s h = absurd h
+corresponds_at at (ExprKind-F.BlockExpr b) s h =
     ap standing (block_is_level at b)
-    ∙ of_own standing nothing (λ x. refl) (λ t item y number ss e. refl) (λ t c. refl) (λ t way moves number ss e. refl)
+    ∙ of_own standing nothing (λ x. refl) (λ t item y number ss e. refl) (λ t c. refl) (λ t mapping moves number ss e. refl)
     at (out-BlockExpr b).mod_ b
-stands_at at (ExprKind-F.TryExpr e) s h = of_question standing nothing s _ (λ items. refl) refl (question_items at.answers.lang_items)
-stands_at at (ExprKind-F.ForExpr l q e b) s h =
+corresponds_at at (ExprKind-F.TryExpr e) s h = of_question standing nothing s _ (λ items. refl) refl (question_items at.answers.lang_items)
+corresponds_at at (ExprKind-F.ForExpr l q e b) s h =
     of_for standing nothing (λ t items x w p j y. refl) (λ t. refl) (for_items at.answers.lang_items) s _ _ _ _ _
-stands_at at (ExprKind-F.ClosureExpr ps r e is_async is_gen moves is_static) s h =
-    of_closure standing nothing (λ t m st xs y b. refl) (λ t way m xs y b. refl) (coroutine_kind is_async is_gen) s moves is_static _ _ _
-stands_at at (ExprKind-F.PrefixExpr None e) s h = refl
-stands_at at (ExprKind-F.PrefixExpr (Some o) e) s h = refl
-stands_at at (ExprKind-F.BinExpr None a b) s h = refl
-stands_at at (ExprKind-F.BinExpr (Some (op.LogicOp o)) a b) s h = refl
-stands_at at (ExprKind-F.BinExpr (Some (op.ArithOp o)) a b) s h = refl
-stands_at at (ExprKind-F.BinExpr (Some (op.CmpOp o)) a b) s h = refl
-stands_at at (ExprKind-F.BinExpr (Some (op.Assignment o)) a b) s h = refl
-stands_at at (ExprKind-F.BinExpr (Some op.Assign) a b) s h = refl
-stands_at at _ s h = refl
+corresponds_at at (ExprKind-F.ClosureExpr ps r e is_async is_gen moves is_static) s h =
+    of_closure standing nothing (λ t m st xs y b. refl) (λ t mapping m xs y b. refl) (coroutine_kind is_async is_gen) s moves
+    is_static _ _ _
+corresponds_at at (ExprKind-F.PrefixExpr None e) s h = refl
+corresponds_at at (ExprKind-F.PrefixExpr (Some o) e) s h = refl
+corresponds_at at (ExprKind-F.BinExpr None a b) s h = refl
+corresponds_at at (ExprKind-F.BinExpr (Some (op.LogicOp o)) a b) s h = refl
+corresponds_at at (ExprKind-F.BinExpr (Some (op.ArithOp o)) a b) s h = refl
+corresponds_at at (ExprKind-F.BinExpr (Some (op.CmpOp o)) a b) s h = refl
+corresponds_at at (ExprKind-F.BinExpr (Some (op.Assignment o)) a b) s h = refl
+corresponds_at at (ExprKind-F.BinExpr (Some op.Assign) a b) s h = refl
+corresponds_at at _ s h = refl
 
-module _ (at : Spot) (e : AstExpr) (h : IsNoCall (out-ExprKind e.kind)) where
-  stands : standing (answered at e) ≡ (false, option_map (path_part at) (path_of_callee (out-ExprKind e.kind)))
-  stands =
+module _ (at : ResolveCtx) (e : AstExpr) (h : IsNoCall (out-ExprKind e.kind)) where
+  corresponds : standing (resolved_expr at e) ≡ (false, option_map (path_part at) (path_of_callee (out-ExprKind e.kind)))
+  corresponds =
       let s = pointer_at at e.id e.range in
       ap standing (expr_is_level at e)
       ∙ (through_asked standing (λ why x. refl) s (at.answers.cfg (site_of s)) (kept_expr at e)
-      ∙ stands_at at (out-ExprKind e.kind) s h)
+      ∙ corresponds_at at (out-ExprKind e.kind) s h)
 
-  uncalled : is_called (answered at e) ≡ false
-  uncalled = ap (λ x. x.0) stands
+  uncalled : is_called (resolved_expr at e) ≡ false
+  uncalled = ap (λ x. x.0) corresponds
 
-  pub no_told : noted (answered at e) ≡ pure tt
-  no_told = untold (answered at e) uncalled
+  pub no_emitted : track_calls (resolved_expr at e) ≡ pure tt
+  no_emitted = untold (resolved_expr at e) uncalled
 
-  pub callee_is : callee_path (answered at e) ≡ option_map (path_part at) (path_of_callee (out-ExprKind e.kind))
-  callee_is = callee_alone (answered at e) uncalled ∙ ap (λ x. x.1) stands
+  pub callee_is : callee_path (resolved_expr at e) ≡ option_map (path_part at) (path_of_callee (out-ExprKind e.kind))
+  callee_is = callee_alone (resolved_expr at e) uncalled ∙ ap (λ x. x.1) corresponds
 
-  pub dots_alone : comes_to_dots (answered at e) ≡ is_dots (answered at e)
-  dots_alone = own_dots (answered at e) uncalled
+  pub dots_alone : comes_to_dots (resolved_expr at e) ≡ is_dots (resolved_expr at e)
+  dots_alone = own_dots (resolved_expr at e) uncalled
 
-  pub element_is : (f : Path → Bool) (call : Option Pointer) (t : Target) → element_or f call t (answered at e) ≡ t
-  element_is f call t = element_alone f call t (answered at e) uncalled
+  pub element_is : (f : Path → Bool) (call : Option Pointer) (t : Target) → element_or f call t (resolved_expr at e) ≡ t
+  element_is f call t = element_alone f call t (resolved_expr at e) uncalled

@@ -1,4 +1,4 @@
--- The parts of what is assigned to are smaller than the whole, as they are answered.
+-- The parts of the assignee expression are smaller than the whole, as they are answered.
 use Rattle.std.proofs.Common.{arith, ◌≡◌, ◌∙◌, ap, refl, ℕ, ◌+◌, ◌<◌, ◌≤◌, List, [], ◌∷◌, Option}
 use Rattle.std.proofs.Common.{Some, None}
 use Rattle.std.specs.Prelude.{Result, Ok, Err}
@@ -9,16 +9,16 @@ use Rattle.hir_syntax.specs.declared.ast.RecordExprField.{RecordExprField as Ast
 use Rattle.hir_syntax.specs.declared.ast.RecordExprFieldList.{RecordExprFieldList as AstFieldList, out-RecordExprFieldList}
 use Rattle.hir_store.specs.Pointers.{Pointer}
 use Rattle.hir_store.specs.declared.ids.CfgId.{CfgId}
-use Rattle.hir_env.specs.Answered.{Field}
+use Rattle.hir_env.specs.ResolvedTree.{Field}
 use Rattle.hir_env.specs.Answering.{asked_field, expr_at, field_of}
 use Rattle.hir_env.specs.Count.{count_expr, count_exprs, count_field, count_fields, count_option_expr, count_spread}
 use Rattle.hir_env.specs.Layers.{ExprKindLayer}
-use Rattle.hir_env.specs.Spot.{Spot, site_of}
-use Rattle.hir_env.specs.Whole.{answered, answered_field, expr_part, exprs_part, fields_part, into, pointer_at, reader, record_part}
+use Rattle.hir_env.specs.ResolveCtx.{ResolveCtx, site_of}
+use Rattle.hir_env.specs.Whole.{resolved_expr, resolved_field, expr_part, exprs_part, fields_part, into, pointer_at, reader, record_part}
 use Rattle.hir_env.specs.Whole.{written}
 use Rattle.hir_env.proofs.Levels.{field_is_level, record_is_level}
-use Rattle.hir_lower_form.specs.Nests.{Claims, Each, IfPresent, KidsTarget, KidsTargetFields}
-use Rattle.hir_lower_pat.specs.Aims.{KidsOfFields, KidsOfTarget}
+use Rattle.hir_lower_builder.specs.Nests.{Claims, Each, IfPresent, KidsTarget, KidsTargetFields}
+use Rattle.hir_lower_pat.specs.Assignees.{KidsOfFields, KidsOfTarget}
 
 -- a condition counts for nothing
 count_kept : (s : Pointer) (r : Result (Unit {0}) CfgId) (f : Field) → count_field (asked_field s r f) ≡ count_field f
@@ -26,8 +26,8 @@ count_kept s (Ok _) f = refl
 count_kept s (Err by) f = refl
 
 -- with what may be handed in to one lowering, as far as it is smaller, and to another
-module _ (at : Spot) (C : Claims) (inside : AstExpr → Type 0) (n : ℕ)
-    (below : (x : AstExpr) → C.target at.place x → count_expr (answered at x) < n → inside x) where
+module _ (at : ResolveCtx) (C : Claims) (inside : AstExpr → Type 0) (n : ℕ)
+    (below : (x : AstExpr) → C.target at.place x → count_expr (resolved_expr at x) < n → inside x) where
   part : (o : Option AstExpr) → IfPresent (C.target at.place) o → count_option_expr (expr_part at o) < n → IfPresent inside o
   part None c h = tt
   part (Some x) c h = below x c h
@@ -42,13 +42,13 @@ module _ (at : Spot) (C : Claims) (inside : AstExpr → Type 0) (n : ℕ)
   named s None o c h = part o c h
   named s (Some m) o c h = part o c h
 
-  field : (f : AstField) → IfPresent (C.target at.place) (out-RecordExprField f).expr → count_field (answered_field at f) < n
+  field : (f : AstField) → IfPresent (C.target at.place) (out-RecordExprField f).expr → count_field (resolved_field at f) < n
       → IfPresent inside (out-RecordExprField f).expr
   field f c h =
       let y = out-RecordExprField f in
       let s = pointer_at at y.id y.range in
       let read = field_of s y.name (expr_part at y.expr) in
-      let same : count_field (answered_field at f) ≡ count_field read =
+      let same : count_field (resolved_field at f) ≡ count_field read =
       ap count_field (field_is_level at f) ∙ count_kept s (at.answers.cfg (site_of s)) read in
       named s y.name y.expr c (omega (arith, h, same))
 

@@ -5,30 +5,31 @@ use Rattle.std.specs.Prelude.{◌-◌, drop, if◌then◌else◌, is_some, take}
 use Rattle.hir_syntax.specs.declared.ast.Expr.{Expr as AstExpr}
 use Rattle.hir_store.specs.Pointers.{Pointer}
 use Rattle.hir_store.specs.Range.{HasPat}
-use Rattle.hir_store.specs.declared.fault.StoreFault.{StoreFault}
+use Rattle.hir_store.specs.declared.error.StoreError.{StoreError}
 use Rattle.hir_store.specs.declared.ids.PatId.{PatId}
 use Rattle.hir_store.specs.declared.path.Path.{Path as HirPath}
-use Rattle.hir_env.specs.Spot.{Spot}
-use Rattle.hir_env.specs.Answered as tree
-use Rattle.hir_env.specs.Answered.{Expr, Exprs, OptionExpr, OptionPath, Origin, Path, Targets}
+use Rattle.hir_env.specs.ResolveCtx.{ResolveCtx}
+use Rattle.hir_env.specs.ResolvedTree as tree
+use Rattle.hir_env.specs.ResolvedTree.{Expr, Exprs, OptionExpr, OptionPath, Origin, Path, Targets}
 use Rattle.hir_env.specs.Targets.{around_callee, before_dots, behind_dots, call_or, callee_path, called_or, comes_to_dots, dots_pointer}
-use Rattle.hir_env.specs.Targets.{each_target, element_of, elements, noted_in, origin, pointer_of, target_of, target_or}
-use Rattle.hir_env.specs.Whole.{answered, args_part, expr_part, exprs_part}
-use Rattle.hir_lower_form.specs.Builder.{Builder}
-use Rattle.hir_lower_form.specs.Lowering.{Checked, Lowering, Lowers, ◌>>=◌, ◌>>◌, go_on, pure}
-use Rattle.hir_lower_form.specs.Lower.{lower_path, lower_target, lower_targets}
-use Rattle.hir_lower_form.specs.Methods.{LowersTarget}
-use Rattle.hir_lower_form.specs.Pats.{Elements, no_elements}
-use Rattle.hir_lower_form.specs.Targets.{add_target, add_target_dots, array_target_form, call_target_form, call_target_of}
-use Rattle.hir_lower_pat.specs.Aims.{Aims, HasAim, aim_of, aimed, element_found, found_at, noted, placed}
+use Rattle.hir_env.specs.Targets.{each_target, element_of, elements, tracked_in, origin, pointer_of, target_of, target_or}
+use Rattle.hir_env.specs.Whole.{resolved_expr, args_part, expr_part, exprs_part}
+use Rattle.hir_lower_builder.specs.Builder.{Builder}
+use Rattle.hir_lower_builder.specs.Lowering.{Checked, Lowering, Lowers, ◌>>=◌, ◌>>◌, go_on, pure}
+use Rattle.hir_lower_builder.specs.Lower.{lower_path, lower_target, lower_targets}
+use Rattle.hir_lower_builder.specs.Methods.{LowersTarget}
+use Rattle.hir_lower_builder.specs.Pats.{Elements, no_elements}
+use Rattle.hir_lower_builder.specs.Targets.{add_target, add_target_dots, array_target_form, call_target_form, call_target_of}
+use Rattle.hir_lower_pat.specs.Assignees.{Assignees, HasAssignee, assignee_of, target_or_place, element_found, found_at, track_calls}
+use Rattle.hir_lower_pat.specs.Assignees.{place_assignee}
 use Rattle.hir_lower_pat.specs.Methods.{HasElements, add_element}
 use Rattle.hir_lower_pat.specs.TargetLists.{ArrayParts, array_front, array_made, array_of, array_read, array_steps}
 use Rattle.hir_lower_pat.specs.TargetLists.{callee_read, called_steps, elements_read, part_behind, part_steps}
-use Rattle.hir_lower_pat.specs.declared.aims.Aim.{Aim}
-use Rattle.hir_lower_pat.specs.declared.aims.Aim.TheVariants as aim
-use Rattle.hir_lower_pat.proofs.AimSteps.{place_aims, same_steps}
+use Rattle.hir_lower_pat.specs.declared.assignees.Assignee.{Assignee}
+use Rattle.hir_lower_pat.specs.declared.assignees.Assignee.TheVariants as assignee
+use Rattle.hir_lower_pat.proofs.AssigneeSteps.{place_assignees, same_steps}
 use Rattle.hir_lower_pat.proofs.KindLemmas.{first_of}
-use Rattle.hir_lower_pat.proofs.TargetElements.{callee_aims, callee_lowers, noted_lowers}
+use Rattle.hir_lower_pat.proofs.TargetElements.{callee_assignees, callee_lowers, tracked_lowers}
 
 module _ (f : Path → Bool) where
   -- tuples and calls
@@ -66,11 +67,11 @@ module _ (f : Path → Bool) where
       part = lower_target (element_of f None e)
 
       by : (c : Bool) → comes_to_dots e ≡ c
-          → lower_targets done (if c then noted_in e (tree.dots_targets (elements f es))
+          → lower_targets done (if c then tracked_in e (tree.dots_targets (elements f es))
           else tree.more_targets (element_of f None e) (elements f es)) b
-          ≡ (part_behind done (if c then noted e >> pure None else (part >>= (λ i. pure (Some i)))) >>= more es) b
+          ≡ (part_behind done (if c then track_calls e >> pure None else (part >>= (λ i. pure (Some i)))) >>= more es) b
       by true h =
-          let o = noted e b in noted_lowers e (tree.dots_targets (elements f es)) done b h ∙ dots_behind o.0 o.1 done es
+          let o = track_calls e b in tracked_lowers e (tree.dots_targets (elements f es)) done b h ∙ dots_behind o.0 o.1 done es
       by false h = let o = part b in one_behind o.0 o.1 done es
 
   elements_are : (done : Elements) (es : Exprs) (b : Builder) → lower_targets done (elements f es) b ≡ elements_read f done es b
@@ -151,13 +152,13 @@ module _ (f : Path → Bool) where
       part = lower_target (element_of f None e)
 
       by : (c : Bool) → comes_to_dots e ≡ c
-          → (lower_targets (before, None) (if c then noted_in e tree.no_targets
+          → (lower_targets (before, None) (if c then tracked_in e tree.no_targets
           else tree.more_targets (element_of f None e) (before_dots f es))
           >>= behind_steps (if c then each_target f es else behind_dots f es) behind (if c then Some at else dots_pointer es)) b
-          ≡ (((if c then noted e >> pure None else (part >>= (λ i. pure (Some i)))) >>= fronted before at behind) >>= rest_of es) b
+          ≡ (((if c then track_calls e >> pure None else (part >>= (λ i. pure (Some i)))) >>= fronted before at behind) >>= rest_of es) b
       by true h =
-          let o = noted e b in
-          ap (λ r. go_on r.0 r.1 (behind_steps (each_target f es) behind (Some at))) (noted_lowers e tree.no_targets (before, None) b h)
+          let o = track_calls e b in
+          ap (λ r. go_on r.0 r.1 (behind_steps (each_target f es) behind (Some at))) (tracked_lowers e tree.no_targets (before, None) b h)
           ∙ dots_found o.0 o.1 before behind at es
       by false h = let o = part b in in_front o.0 o.1 before behind at es
 
@@ -209,10 +210,10 @@ module _ (f : Path → Bool) where
       called_or (tree.absent_target None) (origin call at) g has_list (elements f es) ≡ tree.absent_target None
 
   pub place_called : (call : Option Pointer) (e : Expr) (at : Pointer) (g : OptionExpr) (has_list : Bool) (es : Exprs) (old : Builder)
-      (r : Checked Aim) (new : Builder) → e ≡ tree.call_expr at g has_list es → none call at g has_list es
-      → Lowers HasAim (placed e) old r new → Lowers HasAim (aim_of f call e) old r new
+      (r : Checked Assignee) (new : Builder) → e ≡ tree.call_expr at g has_list es → none call at g has_list es
+      → Lowers HasAssignee (place_assignee e) old r new → Lowers HasAssignee (assignee_of f call e) old r new
   place_called call e at g has_list es old r new is lack h =
-      place_aims f call e old r new (ap (target_or f call (tree.absent_target None)) is ∙ lack) h
+      place_assignees f call e old r new (ap (target_or f call (tree.absent_target None)) is ∙ lack) h
 
   no_list : (call : Option Pointer) (at : Pointer) (g : OptionExpr) (es : Exprs) → none call at g false es
   no_list call at tree.no_expr es = refl
@@ -229,66 +230,70 @@ module _ (f : Path → Bool) where
 
   -- the calls of the callee are told, then its path is read, and then the rest
   path_behind : (o : Checked (Unit {0})) (b : Builder) (p : OptionPath) (q : Option HirPath → Lowering PatId)
-      → go_on (go_on o b (λ _. lower_path p >>= q)).0 (go_on o b (λ _. lower_path p >>= q)).1 (λ i. pure (aim.Pat i))
+      → go_on (go_on o b (λ _. lower_path p >>= q)).0 (go_on o b (λ _. lower_path p >>= q)).1 (λ i. pure (assignee.Pat i))
       ≡ go_on (go_on (go_on o b (λ _. lower_path p)).0 (go_on o b (λ _. lower_path p)).1 q).0
-      (go_on (go_on o b (λ _. lower_path p)).0 (go_on o b (λ _. lower_path p)).1 q).1 (λ i. pure (aim.Pat i))
+      (go_on (go_on o b (λ _. lower_path p)).0 (go_on o b (λ _. lower_path p)).1 q).1 (λ i. pure (assignee.Pat i))
   path_behind (Ok _) b p q = refl
   path_behind (Err e) b p q = refl
 
   call_is : (at : Origin) (g : Expr) (p : OptionPath) (ts : Targets) (x : Expr) (b : Builder) → callee_path g ≡ Some p
-      → aimed (around_callee g (tree.call_target at p ts)) x b ≡ called_steps at g (lower_targets no_elements ts) b
+      → target_or_place (around_callee g (tree.call_target at p ts)) x b ≡ called_steps at g (lower_targets no_elements ts) b
   unfolding call_target_form
   call_is at g p ts x b h =
-      let o = noted g b in
+      let o = track_calls g b in
       let rest = call_target_of at (lower_targets no_elements ts) in
-      ap (λ m. m b) (callee_aims g at p ts x p h)
-      ∙ (ap (λ r. go_on r.0 r.1 (λ i. pure (aim.Pat i))) (callee_lowers g (tree.call_target at p ts) p b h)
+      ap (λ m. m b) (callee_assignees g at p ts x p h)
+      ∙ (ap (λ r. go_on r.0 r.1 (λ i. pure (assignee.Pat i))) (callee_lowers g (tree.call_target at p ts) p b h)
       ∙ (path_behind o.0 o.1 p rest
-      ∙ ap (λ c. (((noted g >> callee_read c) >>= rest) >>= (λ i. pure (aim.Pat i))) b) (sym h)))
+      ∙ ap (λ c. (((track_calls g >> callee_read c) >>= rest) >>= (λ i. pure (assignee.Pat i))) b) (sym h)))
 
   pub path_called : (call : Option Pointer) (e : Expr) (at : Pointer) (g : Expr) (es : Exprs) (p : OptionPath) (old : Builder)
-      (r : Checked Aim) (new : Builder) → e ≡ tree.call_expr at (tree.some_expr g) true es → callee_path g ≡ Some p
-      → Lowers HasAim (called_steps (origin call at) g (lower_targets no_elements (elements f es))) old r new
-      → Lowers HasAim (aim_of f call e) old r new
+      (r : Checked Assignee) (new : Builder) → e ≡ tree.call_expr at (tree.some_expr g) true es → callee_path g ≡ Some p
+      → Lowers HasAssignee (called_steps (origin call at) g (lower_targets no_elements (elements f es))) old r new
+      → Lowers HasAssignee (assignee_of f call e) old r new
   path_called call e at g es p old r new is some h =
       let ts = elements f es in
       let t : target_or f call (tree.absent_target None) e ≡ around_callee g (tree.call_target (origin call at) p ts) =
       ap (target_or f call (tree.absent_target None)) is
       ∙ ap (λ o. call_or (tree.absent_target None) (origin call at) g o ts) some in
-      same_steps HasAim (aim_of f call e) (called_steps (origin call at) g (lower_targets no_elements ts)) old r new
-      (ap (λ x. aimed x e old) t ∙ call_is (origin call at) g p ts e old some) h
+      same_steps HasAssignee (assignee_of f call e) (called_steps (origin call at) g (lower_targets no_elements ts)) old r new
+      (ap (λ x. target_or_place x e old) t ∙ call_is (origin call at) g p ts e old some) h
 
 -- where they are read
 
-module _ (spot : Spot) (call : Option Pointer) (at : Pointer) where
+module _ (rctx : ResolveCtx) (call : Option Pointer) (at : Pointer) where
   abbrev is_call : Option AstExpr → Option (List AstExpr) → Expr
-  is_call callee args = tree.call_expr at (expr_part spot callee) (is_some args) (args_part spot args)
+  is_call callee args = tree.call_expr at (expr_part rctx callee) (is_some args) (args_part rctx args)
 
   -- without a callee, without a list of arguments, and where the callee is no path
-  pub calleeless_lowers : (e : Expr) (callee : Option AstExpr) (args : Option (List AstExpr)) (old : Builder) (r : Checked Aim)
-      (new : Builder) → e ≡ is_call callee args → callee ≡ None → Lowers HasAim (placed e) old r new → Aims spot call e old r new
+  pub calleeless_lowers : (e : Expr) (callee : Option AstExpr) (args : Option (List AstExpr)) (old : Builder) (r : Checked Assignee)
+      (new : Builder) → e ≡ is_call callee args → callee ≡ None → Lowers HasAssignee (place_assignee e) old r new
+      → Assignees rctx call e old r new
   calleeless_lowers e callee args old r new is lack h =
-      place_called (found_at spot) call e at tree.no_expr (is_some args) (args_part spot args) old r new
-      (is ∙ ap (λ o. is_call o args) lack) (no_callee (found_at spot) call at (is_some args) (args_part spot args)) h
+      place_called (found_at rctx) call e at tree.no_expr (is_some args) (args_part rctx args) old r new
+      (is ∙ ap (λ o. is_call o args) lack) (no_callee (found_at rctx) call at (is_some args) (args_part rctx args)) h
 
-  pub argless_lowers : (e : Expr) (callee : Option AstExpr) (args : Option (List AstExpr)) (old : Builder) (r : Checked Aim)
-      (new : Builder) → e ≡ is_call callee args → args ≡ None → Lowers HasAim (placed e) old r new → Aims spot call e old r new
+  pub argless_lowers : (e : Expr) (callee : Option AstExpr) (args : Option (List AstExpr)) (old : Builder) (r : Checked Assignee)
+      (new : Builder) → e ≡ is_call callee args → args ≡ None → Lowers HasAssignee (place_assignee e) old r new
+      → Assignees rctx call e old r new
   argless_lowers e callee args old r new is lack h =
-      place_called (found_at spot) call e at (expr_part spot callee) false (args_part spot None) old r new
-      (is ∙ ap (is_call callee) lack) (no_list (found_at spot) call at (expr_part spot callee) (args_part spot None)) h
+      place_called (found_at rctx) call e at (expr_part rctx callee) false (args_part rctx None) old r new
+      (is ∙ ap (is_call callee) lack) (no_list (found_at rctx) call at (expr_part rctx callee) (args_part rctx None)) h
 
   no_some : {A : Type 0} (o : Option A) → false ≡ is_some o → o ≡ None
   no_some None h = refl
   no_some (Some x) h = cc
 
   pub pathless_lowers : (e : Expr) (callee : Option AstExpr) (args : Option (List AstExpr)) (f x : AstExpr) (old : Builder)
-      (r : Checked Aim) (new : Builder) → e ≡ is_call callee args → callee ≡ Some f → x ≡ f
-      → false ≡ is_some (callee_path (answered spot x)) → Lowers HasAim (placed e) old r new → Aims spot call e old r new
+      (r : Checked Assignee) (new : Builder) → e ≡ is_call callee args → callee ≡ Some f → x ≡ f
+      → false ≡ is_some (callee_path (resolved_expr rctx x)) → Lowers HasAssignee (place_assignee e) old r new
+      → Assignees rctx call e old r new
   pathless_lowers e callee args f x old r new is some same lack h =
-      let path : callee_path (answered spot f) ≡ None = no_some _ (lack ∙ ap (λ y. is_some (callee_path (answered spot y))) same) in
-      place_called (found_at spot) call e at (tree.some_expr (answered spot f)) (is_some args) (args_part spot args) old r new
+      let path : callee_path (resolved_expr rctx f)
+      ≡ None = no_some _ (lack ∙ ap (λ y. is_some (callee_path (resolved_expr rctx y))) same) in
+      place_called (found_at rctx) call e at (tree.some_expr (resolved_expr rctx f)) (is_some args) (args_part rctx args) old r new
       (is ∙ ap (λ o. is_call o args) some)
-      (no_path (found_at spot) call at (answered spot f) (is_some args) (args_part spot args) path) h
+      (no_path (found_at rctx) call at (resolved_expr rctx f) (is_some args) (args_part rctx args) path) h
 
   some_path : {A : Type 0} (o : Option A) (P : Type 0) → true ≡ is_some o → ((p : A) → o ≡ Some p → P) → P
   some_path None P h q = absurd (apart h)
@@ -298,33 +303,33 @@ module _ (spot : Spot) (call : Option Pointer) (at : Pointer) where
   some_path (Some p) P h q = q p refl
 
   pub call_lowers : (e : Expr) (callee : Option AstExpr) (args : Option (List AstExpr)) (f x : AstExpr) (es : List AstExpr)
-      (old : Builder) (r : Checked Aim) (new : Builder) → e ≡ is_call callee args → callee ≡ Some f → args ≡ Some es → x ≡ f
-      → true ≡ is_some (callee_path (answered spot x))
-      → Lowers HasAim (called_steps (origin call at) (answered spot x)
-      (lower_targets no_elements (elements (found_at spot) (exprs_part spot es)))) old r new
-      → Aims spot call e old r new
+      (old : Builder) (r : Checked Assignee) (new : Builder) → e ≡ is_call callee args → callee ≡ Some f → args ≡ Some es → x ≡ f
+      → true ≡ is_some (callee_path (resolved_expr rctx x))
+      → Lowers HasAssignee (called_steps (origin call at) (resolved_expr rctx x)
+      (lower_targets no_elements (elements (found_at rctx) (exprs_part rctx es)))) old r new
+      → Assignees rctx call e old r new
   call_lowers e callee args f x es old r new is some list same path h =
-      let own : e ≡ tree.call_expr at (tree.some_expr (answered spot x)) true (exprs_part spot es) =
+      let own : e ≡ tree.call_expr at (tree.some_expr (resolved_expr rctx x)) true (exprs_part rctx es) =
       is ∙ (ap (λ o. is_call o args) (some ∙ ap Some (sym same)) ∙ ap (is_call (Some x)) list) in
-      some_path (callee_path (answered spot x)) (Aims spot call e old r new) path
-      (λ p found. path_called (found_at spot) call e at (answered spot x) (exprs_part spot es) p old r new own found h)
+      some_path (callee_path (resolved_expr rctx x)) (Assignees rctx call e old r new) path
+      (λ p found. path_called (found_at rctx) call e at (resolved_expr rctx x) (exprs_part rctx es) p old r new own found h)
 
 -- one part after another
 
-module _ (spot : Spot) (xs : List AstExpr) (x : AstExpr) (b c : Builder) where
+module _ (rctx : ResolveCtx) (xs : List AstExpr) (x : AstExpr) (b c : Builder) where
   abbrev behind : List AstExpr
   behind = take (length xs - 1) (drop 1 xs)
 
-  pub element_refused : (done : Elements) (e : StoreFault) → x ≡ slice_index_or xs 0 x → 1 ≤ length xs
-      → part_behind done (element_found (found_at spot) None (answered spot x)) b ≡ (Err e, c)
-      → elements_read (found_at spot) done (exprs_part spot xs) b ≡ (Err e, c)
+  pub element_refused : (done : Elements) (e : StoreError) → x ≡ slice_index_or xs 0 x → 1 ≤ length xs
+      → part_behind done (element_found (found_at rctx) None (resolved_expr rctx x)) b ≡ (Err e, c)
+      → elements_read (found_at rctx) done (exprs_part rctx xs) b ≡ (Err e, c)
   element_refused done e h le is =
-      ap (λ ys. elements_read (found_at spot) done (exprs_part spot ys) b) (first_of xs x h le)
-      ∙ ap (λ r. go_on r.0 r.1 (λ d. elements_read (found_at spot) d (exprs_part spot behind))) is
+      ap (λ ys. elements_read (found_at rctx) done (exprs_part rctx ys) b) (first_of xs x h le)
+      ∙ ap (λ r. go_on r.0 r.1 (λ d. elements_read (found_at rctx) d (exprs_part rctx behind))) is
 
-  pub array_refused : (done : ArrayParts) (e : StoreFault) → x ≡ slice_index_or xs 0 x → 1 ≤ length xs
-      → array_steps (found_at spot) done (answered spot x) b ≡ (Err e, c)
-      → array_read (found_at spot) done (exprs_part spot xs) b ≡ (Err e, c)
+  pub array_refused : (done : ArrayParts) (e : StoreError) → x ≡ slice_index_or xs 0 x → 1 ≤ length xs
+      → array_steps (found_at rctx) done (resolved_expr rctx x) b ≡ (Err e, c)
+      → array_read (found_at rctx) done (exprs_part rctx xs) b ≡ (Err e, c)
   array_refused done e h le is =
-      ap (λ ys. array_read (found_at spot) done (exprs_part spot ys) b) (first_of xs x h le)
-      ∙ ap (λ r. go_on r.0 r.1 (λ d. array_read (found_at spot) d (exprs_part spot behind))) is
+      ap (λ ys. array_read (found_at rctx) done (exprs_part rctx ys) b) (first_of xs x h le)
+      ∙ ap (λ r. go_on r.0 r.1 (λ d. array_read (found_at rctx) d (exprs_part rctx behind))) is

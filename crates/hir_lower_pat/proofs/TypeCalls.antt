@@ -4,21 +4,21 @@ use Rattle.hir_syntax.specs.declared.macros.MacroCall.{MacroCall as AstMacroCall
 use Rattle.hir_syntax.specs.declared.pats.Pat.{Pat as AstPat}
 use Rattle.hir_store.specs.Pointers.{Pointer}
 use Rattle.hir_store.specs.Range.{Grows, HasPat}
-use Rattle.hir_store.specs.declared.fault.StoreFault.{StoreFault}
+use Rattle.hir_store.specs.declared.error.StoreError.{StoreError}
 use Rattle.hir_store.specs.declared.ids.PatId.{PatId}
-use Rattle.hir_env.specs.Spot.{Spot}
+use Rattle.hir_env.specs.ResolveCtx.{ResolveCtx}
 use Rattle.hir_env.specs.TypePats.{type_pat_of}
 use Rattle.hir_env.specs.declared.expand.FragmentKind.TheVariants as kind
-use Rattle.hir_env.specs.declared.place.Place.{Place}
-use Rattle.hir_lower_form.specs.Builder.{Builder}
-use Rattle.hir_lower_form.specs.Calls.{Found, entered_at}
-use Rattle.hir_lower_form.specs.Lower.{lower_type_pat}
-use Rattle.hir_lower_form.specs.Lowering.{Checked, Lowering, Lowers, ◌>>=◌, go_on}
+use Rattle.hir_env.specs.declared.ctx.LowerCtx.{LowerCtx}
+use Rattle.hir_lower_builder.specs.Builder.{Builder}
+use Rattle.hir_lower_builder.specs.Calls.{Found, entered_at}
+use Rattle.hir_lower_builder.specs.Lower.{lower_type_pat}
+use Rattle.hir_lower_builder.specs.Lowering.{Checked, Lowering, Lowers, ◌>>=◌, go_on}
 use Rattle.hir_lower_pat.specs.Calls.{There, missing_led, pat_there, point_lone, type_pat_there, written_call}
-use Rattle.hir_lower_pat.proofs.AimTurns.{grows_on}
+use Rattle.hir_lower_pat.proofs.AssigneeFuel.{grows_on}
 use Rattle.hir_lower_pat.proofs.CallLemmas.{type_pat_on}
 
-module _ (at : Spot) (s : Pointer) (c : AstMacroCall) (old mid : Builder) where
+module _ (at : ResolveCtx) (s : Pointer) (c : AstMacroCall) (old mid : Builder) where
   abbrev steps : Lowering PatId
   steps = lower_type_pat (type_pat_of at.answers.lang_items (written_call at s c))
 
@@ -26,7 +26,7 @@ module _ (at : Spot) (s : Pointer) (c : AstMacroCall) (old mid : Builder) where
   behind f = type_pat_there at (pat_there f) >>= point_lone s
 
   -- refused where it is asked about
-  pub type_unasked : (e : StoreFault) → entered_at at kind.Pat c old ≡ (Err e, mid) → steps old ≡ (Err e, mid)
+  pub type_unasked : (e : StoreError) → entered_at at kind.Pat c old ≡ (Err e, mid) → steps old ≡ (Err e, mid)
   type_unasked e h = type_pat_on at s c old ∙ ap (λ r. go_on r.0 r.1 behind) h
 
   found : (f : Found) (x : There) → entered_at at kind.Pat c old ≡ (Ok f, mid) → pat_there f ≡ x
@@ -42,8 +42,8 @@ module _ (at : Spot) (s : Pointer) (c : AstMacroCall) (old mid : Builder) where
   type_missing f h k (Err e) new grown l = λ other. let m = l other in (found f None h k ∙ m.0, m.1)
 
   -- that it stands for one
-  module _ (f : Found) (q : Place) (x : AstPat) (h : entered_at at kind.Pat c old ≡ (Ok f, mid)) (k : pat_there f ≡ Some (q, x)) where
-    pub type_refused : (e : StoreFault) (new : Builder) → type_pat_there at (Some (q, x)) mid ≡ (Err e, new) → steps old ≡ (Err e, new)
+  module _ (f : Found) (q : LowerCtx) (x : AstPat) (h : entered_at at kind.Pat c old ≡ (Ok f, mid)) (k : pat_there f ≡ Some (q, x)) where
+    pub type_refused : (e : StoreError) (new : Builder) → type_pat_there at (Some (q, x)) mid ≡ (Err e, new) → steps old ≡ (Err e, new)
     type_refused e new l = found f (Some (q, x)) h k ∙ ap (λ r. go_on r.0 r.1 (point_lone s)) l
 
     led : (i : PatId) (low new : Builder) (r : Checked PatId) → type_pat_there at (Some (q, x)) mid ≡ (Ok i, low)

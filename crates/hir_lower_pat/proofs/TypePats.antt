@@ -16,31 +16,31 @@ use Rattle.hir_store.specs.Pointers.{Pointer}
 use Rattle.hir_env.specs.Answers.{Answers}
 use Rattle.hir_env.specs.Calls.{entered_pat}
 use Rattle.hir_env.specs.Layers.{Entering}
-use Rattle.hir_env.specs.Spot.{Spot}
-use Rattle.hir_env.specs.declared.place.Place.{Place}
-use Rattle.hir_env.specs.Answered as tree
-use Rattle.hir_env.specs.Answered.{OptionPat, Pat, Side, Use}
+use Rattle.hir_env.specs.ResolveCtx.{ResolveCtx}
+use Rattle.hir_env.specs.declared.ctx.LowerCtx.{LowerCtx}
+use Rattle.hir_env.specs.ResolvedTree as tree
+use Rattle.hir_env.specs.ResolvedTree.{OptionPat, Pat, Side, Use}
 use Rattle.hir_env.specs.Answering.{name_written}
 use Rattle.hir_env.specs.PatLayers.{PatKindLayer}
 use Rattle.hir_env.specs.Pats.{is_found, minus_fits, name_or_bind, pat_at, plain_side, side_of, use_at}
 use Rattle.hir_env.specs.TypePats.{end_at, end_limit, is_plain, start_limit, type_pat_of, type_pats_of}
 use Rattle.hir_env.specs.Count.{count_pat, count_pats}
-use Rattle.hir_env.specs.Whole.{answered_pat, into, pat_level, pat_part, pats_part, pointer_at, reader, written}
+use Rattle.hir_env.specs.Whole.{resolved_pat, into, pat_level, pat_part, pats_part, pointer_at, reader, written}
 use Rattle.hir_env.proofs.PatLevels.{pat_is_level}
 use Rattle.hir_env.specs.declared.lang.LangItems.{LangItems}
 use Rattle.hir_store.specs.Names.{IsWritten}
 use Rattle.hir_store.specs.Stored.{Stored}
-use Rattle.hir_store.specs.declared.fault.StoreFault.{StoreFault}
-use Rattle.hir_store.specs.declared.fault.StoreFault.TheVariants.{Memory}
+use Rattle.hir_store.specs.declared.error.StoreError.{StoreError}
+use Rattle.hir_store.specs.declared.error.StoreError.TheVariants.{Memory}
 use Rattle.hir_store.specs.declared.ids.PatId.{PatId}
 use Rattle.hir_store.specs.declared.name.Name.{Name}
-use Rattle.hir_lower_form.specs.Builder.{Builder}
-use Rattle.hir_lower_form.specs.Lower.{limit_side, lower_type_pat, lower_type_pats, missing}
-use Rattle.hir_lower_form.specs.Lowering.{Checked, Lowering, Lowers, SomeEnd, go_on}
+use Rattle.hir_lower_builder.specs.Builder.{Builder}
+use Rattle.hir_lower_builder.specs.Lower.{limit_side, lower_type_pat, lower_type_pats, missing}
+use Rattle.hir_lower_builder.specs.Lowering.{Checked, Lowering, Lowers, SomeEnd, go_on}
 use Rattle.hir_lower_pat.specs.TypePats.{IsOther}
 use Rattle.hir_lower_pat.proofs.KindLemmas.{first_of, named_side, of_either}
 
-abbrev level : Spot → PatKindLayer written → Pointer → Pat
+abbrev level : ResolveCtx → PatKindLayer written → Pointer → Pat
 level at k s = pat_at at.answers (reader at.answers (into at)) k at.place s
 
 -- ends
@@ -102,7 +102,7 @@ made : (k : AstPatKind) (l : PatKindLayer written) → out-PatKind k ≡ l → k
 made k l h = sym (roll-out-PatKind k) ∙ ap roll-PatKind h
 
 -- a name that isn't plain is no side
-no_name : (at : Spot) (s : Pointer) (n : Option AstName) (is_ref is_mut : Bool) (x : Option AstPat)
+no_name : (at : ResolveCtx) (s : Pointer) (n : Option AstName) (is_ref is_mut : Bool) (x : Option AstPat)
     → is_plain (use_at at.answers at.place n is_ref is_mut) (pat_part at x) ≡ false
     → limit_side (side_of (tree.some_pat (level at (PatKind-F.IdentPat n is_ref is_mut x) s))) ≡ missing
 no_name at s n is_ref is_mut x h =
@@ -112,7 +112,7 @@ no_name at s n is_ref is_mut x h =
     ap limit_side (named_side (is_plain u q) (is_found at.answers at.place u.name) s u w q refl
     ∙ ap (λ b. plain_side b s u.name w) h)
 
-no_plain_name : (at : Spot) (s : Pointer) (n : Option AstName) (is_ref is_mut : Bool) (x : Option AstPat)
+no_plain_name : (at : ResolveCtx) (s : Pointer) (n : Option AstName) (is_ref is_mut : Bool) (x : Option AstPat)
     → ((is_ref ≡ false) × (is_mut ≡ false) × (x ≡ None) → ⊥)
     → limit_side (side_of (tree.some_pat (level at (PatKind-F.IdentPat n is_ref is_mut x) s))) ≡ missing
 no_plain_name at s n false false None other = absurd (other (refl, refl, refl))
@@ -122,12 +122,12 @@ no_plain_name at s n true true None other = no_name at s n true true None refl
 no_plain_name at s n is_ref is_mut (Some y) other = no_name at s n is_ref is_mut (Some y) refl
 
 -- and neither is a call
-call_is_no_side : (env : Answers) (o : Option Entering) (c : AstMacroCall) (p : Place) (s : Pointer)
+call_is_no_side : (env : Answers) (o : Option Entering) (c : AstMacroCall) (p : LowerCtx) (s : Pointer)
     → side_of (tree.some_pat (entered_pat env o c p s)) ≡ tree.other_side
 call_is_no_side env None c p s = refl
 call_is_no_side env (Some into) c p s = refl
 
-pub no_limit_left : (at : Spot) (p : AstPat)
+pub no_limit_left : (at : ResolveCtx) (p : AstPat)
     → ((l : PatLiteral) (minus : Bool) → p.kind ≡ kind.LiteralPat (Some l) minus → ⊥)
     → ((n : Option AstName) → p.kind ≡ kind.IdentPat n false false None → ⊥)
     → ((x : Option AstPath) → p.kind ≡ kind.PathPat x → ⊥)
@@ -168,7 +168,7 @@ name_is_other : (items : LangItems) (b : Bool) (s : Pointer) (u : Use) (w : IsWr
 name_is_other items true s u w q = refl
 name_is_other items false s u w q = refl
 
-other_at : (items : LangItems) (at : Spot) (k : PatKindLayer written) (s : Pointer) → IsOther k
+other_at : (items : LangItems) (at : ResolveCtx) (k : PatKindLayer written) (s : Pointer) → IsOther k
     → type_pat_of items (level at k s) ≡ tree.other_type_pat s
 other_at items at (PatKind-F.IdentPat n is_ref is_mut x) s h = name_is_other items _ s _ _ _
 other_at items at (PatKind-F.TupleStructPat x comma ps) s h = refl
@@ -192,7 +192,7 @@ other_at items at (PatKind-F.OrPat ps) s h = absurd h
 other_at items at (PatKind-F.MacroPat c) s h = absurd h
 other_at items at (PatKind-F.RangePat o low high) s h = absurd h
 
-pub other_is : (items : LangItems) (at : Spot) (p : AstPat) → IsOther (out-PatKind p.kind)
+pub other_is : (items : LangItems) (at : ResolveCtx) (p : AstPat) → IsOther (out-PatKind p.kind)
     → type_pat_of items (pat_level at p) ≡ tree.other_type_pat (pointer_at at p.id p.range)
 other_is items at p h = other_at items at (out-PatKind p.kind) (pointer_at at p.id p.range) h
 
@@ -215,43 +215,43 @@ pub opened : {k : AstPatKind} {l : PatKindLayer written} → roll-PatKind l ≡ 
 opened {k} {l} h = ap out-PatKind (sym h) ∙ out-roll-PatKind l
 
 -- alternatives are smaller than what they stand in
-pub or_size : (at : Spot) (p : AstPat) (ps : List AstPat) → out-PatKind p.kind ≡ PatKind-F.OrPat ps
-    → count_pat (answered_pat at p) ≡ suc (count_pats (pats_part at ps))
+pub or_size : (at : ResolveCtx) (p : AstPat) (ps : List AstPat) → out-PatKind p.kind ≡ PatKind-F.OrPat ps
+    → count_pat (resolved_pat at p) ≡ suc (count_pats (pats_part at ps))
 or_size at p ps h = ap count_pat (pat_is_level at p) ∙ ap (λ k. count_pat (level at k (pointer_at at p.id p.range))) h
 
 -- the first of a list, and what is behind it
-pub first_size : (at : Spot) (xs : List AstPat) (x : AstPat) → x ≡ slice_index_or xs 0 x → 1 ≤ length xs
-    → count_pats (pats_part at xs) ≡ count_pat (answered_pat at x) + count_pats (pats_part at (take (length xs - 1) (drop 1 xs)))
+pub first_size : (at : ResolveCtx) (xs : List AstPat) (x : AstPat) → x ≡ slice_index_or xs 0 x → 1 ≤ length xs
+    → count_pats (pats_part at xs) ≡ count_pat (resolved_pat at x) + count_pats (pats_part at (take (length xs - 1) (drop 1 xs)))
 first_size at xs x h le = ap (λ ys. count_pats (pats_part at ys)) (first_of xs x h le)
 
 -- alternatives, one after another
 
-module _ (items : LangItems) (at : Spot) (done : List PatId) (xs : List AstPat) (x : AstPat) (b c : Builder) where
+module _ (items : LangItems) (at : ResolveCtx) (done : List PatId) (xs : List AstPat) (x : AstPat) (b c : Builder) where
   abbrev behind : List AstPat
   behind = take (length xs - 1) (drop 1 xs)
 
   abbrev left : List PatId → Builder → Checked (List PatId) × Builder
   left ids = lower_type_pats ids (type_pats_of items (pats_part at behind))
 
-  turn : x ≡ slice_index_or xs 0 x → 1 ≤ length xs
+  iteration : x ≡ slice_index_or xs 0 x → 1 ≤ length xs
       → lower_type_pats done (type_pats_of items (pats_part at xs)) b
-      ≡ go_on (lower_type_pat (type_pat_of items (answered_pat at x)) b).0 (lower_type_pat (type_pat_of items (answered_pat at x)) b).1
+      ≡ go_on (lower_type_pat (type_pat_of items (resolved_pat at x)) b).0 (lower_type_pat (type_pat_of items (resolved_pat at x)) b).1
       (λ i. left (done ++ i ∷ []))
-  turn h le = ap (λ ys. lower_type_pats done (type_pats_of items (pats_part at ys)) b) (first_of xs x h le)
+  iteration h le = ap (λ ys. lower_type_pats done (type_pats_of items (pats_part at ys)) b) (first_of xs x h le)
 
-  pub refused : (e : StoreFault) → x ≡ slice_index_or xs 0 x → 1 ≤ length xs
-      → lower_type_pat (type_pat_of items (answered_pat at x)) b ≡ (Err e, c)
+  pub refused : (e : StoreError) → x ≡ slice_index_or xs 0 x → 1 ≤ length xs
+      → lower_type_pat (type_pat_of items (resolved_pat at x)) b ≡ (Err e, c)
       → lower_type_pats done (type_pats_of items (pats_part at xs)) b ≡ (Err e, c)
-  refused e h le is = turn h le ∙ ap (λ r. go_on r.0 r.1 (λ i. left (done ++ i ∷ []))) is
+  refused e h le is = iteration h le ∙ ap (λ r. go_on r.0 r.1 (λ i. left (done ++ i ∷ []))) is
 
   pub one_more : (i : PatId) (ids : List PatId) → x ≡ slice_index_or xs 0 x → 1 ≤ length xs
-      → lower_type_pat (type_pat_of items (answered_pat at x)) b ≡ (Ok i, c) → ids ≡ done ++ i ∷ []
+      → lower_type_pat (type_pat_of items (resolved_pat at x)) b ≡ (Ok i, c) → ids ≡ done ++ i ∷ []
       → lower_type_pats done (type_pats_of items (pats_part at xs)) b ≡ left ids c
   one_more i ids h le is pushed =
-      turn h le ∙ (ap (λ r. go_on r.0 r.1 (λ j. left (done ++ j ∷ []))) is ∙ ap (λ js. left js c) (sym pushed))
+      iteration h le ∙ (ap (λ r. go_on r.0 r.1 (λ j. left (done ++ j ∷ []))) is ∙ ap (λ js. left js c) (sym pushed))
 
 -- what is refused is refused in what it stands in
-pub handed_on : {A : Type 0} (Has : Stored → A → Type 0) (steps : Lowering A) (old : Builder) (e : StoreFault) (r : Checked A)
+pub handed_on : {A : Type 0} (Has : Stored → A → Type 0) (steps : Lowering A) (old : Builder) (e : StoreError) (r : Checked A)
     (new : Builder) → IsErrAnd r (λ f. f ≡ e) → (e ≢ Memory → (steps old ≡ (Err e, new)) × SomeEnd new)
     → Lowers Has steps old r new
 handed_on Has steps old e (Ok a) new is h = absurd is

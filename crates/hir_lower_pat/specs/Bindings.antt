@@ -1,17 +1,17 @@
 -- What the bindings of a top pattern stand for in the description of lowering.
 use Rattle.std.specs.Prelude.{◌≡◌, ◌≢◌, ◌≤◌, suc, length, Ok, Err}
-use Rattle.hir_binding.specs.Bindings.{noted, name_count, depth}
+use Rattle.hir_binding.specs.Bindings.{tracked, name_count, depth}
 use Rattle.hir_store.specs.Arenas.{past}
 use Rattle.hir_store.specs.Range.{Grows}
 use Rattle.hir_store.specs.Stored.{Stored}
-use Rattle.hir_store.specs.declared.fault.StoreFault.TheVariants.{Memory}
-use Rattle.hir_lower_form.specs.Builder.{Builder}
-use Rattle.hir_lower_form.specs.Lowering.{Checked, Lowering, SomeEnd}
-use Rattle.hir_lower_form.specs.Pats.{Table}
+use Rattle.hir_store.specs.declared.error.StoreError.TheVariants.{Memory}
+use Rattle.hir_lower_builder.specs.Builder.{Builder}
+use Rattle.hir_lower_builder.specs.Lowering.{Checked, Lowering, SomeEnd}
+use Rattle.hir_lower_builder.specs.Pats.{Table}
 use Rattle.hir_lower_pat.specs.declared.bindings.Bindings.{Bindings}
 
 abbrev pub table_of : Bindings → Table
-table_of b = record { bindings = b.ids; noted = noted b.list }
+table_of b = record { bindings = b.ids; tracked = tracked b.list }
 
 -- as many names are noted as have a binding, and each binding exists
 abbrev pub HasNames : Stored → Bindings → Type 0

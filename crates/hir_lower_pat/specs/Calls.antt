@@ -1,4 +1,4 @@
--- A call of a macro as a pattern, and as what is assigned to, as the code reads it.
+-- A macro call as a pattern, and as the assignee expression, as the code reads it.
 use Rattle.std.specs.Prelude.{Option, Some, None}
 use denote.Ref.{Bor}
 use Rattle.hir_syntax.specs.declared.ast.Expr.{Expr as AstExpr}
@@ -8,32 +8,32 @@ use Rattle.hir_syntax.specs.declared.macros.MacroCall.{MacroCall as AstMacroCall
 use Rattle.hir_syntax.specs.declared.pats.Pat.{Pat as AstPat}
 use Rattle.hir_store.specs.Pointers.{Pointer}
 use Rattle.hir_store.specs.declared.ids.PatId.{PatId}
-use Rattle.hir_env.specs.Answered.{Expr, Pat}
+use Rattle.hir_env.specs.ResolvedTree.{Expr, Pat}
 use Rattle.hir_env.specs.Calls.{entered_expr, entered_pat}
-use Rattle.hir_env.specs.Spot.{Spot}
+use Rattle.hir_env.specs.ResolveCtx.{ResolveCtx}
 use Rattle.hir_env.specs.Targets.{outermost}
 use Rattle.hir_env.specs.TypePats.{type_pat_of}
-use Rattle.hir_env.specs.Whole.{answered, answered_pat, into, own_pointer}
-use Rattle.hir_env.specs.declared.place.Place.{Place}
-use Rattle.hir_lower_form.specs.Calls.{Found}
-use Rattle.hir_lower_form.specs.Forms.{some}
-use Rattle.hir_lower_form.specs.Lower.{lower_pat, lower_type_pat}
-use Rattle.hir_lower_form.specs.Lowering.{Lowering, ◌>>=◌, ◌>>◌, point_pat, pure}
-use Rattle.hir_lower_form.specs.Methods.{at_place}
-use Rattle.hir_lower_form.specs.Pats.{Table, alone, missing_pat}
-use Rattle.hir_lower_form.specs.Targets.{missing_target}
-use Rattle.hir_lower_pat.specs.Aims.{aim_of, called_aim, element_found, found_at, uncalled_aim}
+use Rattle.hir_env.specs.Whole.{resolved_expr, resolved_pat, into, own_pointer}
+use Rattle.hir_env.specs.declared.ctx.LowerCtx.{LowerCtx}
+use Rattle.hir_lower_builder.specs.Calls.{Found}
+use Rattle.hir_lower_builder.specs.Forms.{some}
+use Rattle.hir_lower_builder.specs.Lower.{lower_pat, lower_type_pat}
+use Rattle.hir_lower_builder.specs.Lowering.{Lowering, ◌>>=◌, ◌>>◌, point_pat, pure}
+use Rattle.hir_lower_builder.specs.Methods.{at_place}
+use Rattle.hir_lower_builder.specs.Pats.{Table, alone, missing_pat}
+use Rattle.hir_lower_builder.specs.Targets.{missing_target}
+use Rattle.hir_lower_pat.specs.Assignees.{assignee_of, called_assignee, element_found, found_at, uncalled_assignee}
 use Rattle.hir_lower_pat.specs.Methods.{element_steps}
-use Rattle.hir_lower_pat.specs.declared.aims.Aim.{Aim}
+use Rattle.hir_lower_pat.specs.declared.assignees.Assignee.{Assignee}
 
-abbrev pub written_call : Spot → Pointer → AstMacroCall → Pat
+abbrev pub written_call : ResolveCtx → Pointer → AstMacroCall → Pat
 written_call at s c = entered_pat at.answers (into at) c at.place s
 
 -- the pattern that is found, and where it is read
 abbrev pub There : Type 0
-There = Option (Place × AstPat)
+There = Option (LowerCtx × AstPat)
 
-abbrev pub pat_in : Place → Option AstFragment → There
+abbrev pub pat_in : LowerCtx → Option AstFragment → There
 pat_in q (Some (fragment.Pat x)) = Some (q, x)
 pat_in q _ = None
 
@@ -42,24 +42,24 @@ pat_there None = None
 pat_there (Some x) = pat_in x.0 x.1
 
 -- the same as it is lent
-abbrev pub pat_lent : Option (Place × Bor AstPat) → There
+abbrev pub pat_lent : Option (LowerCtx × Bor AstPat) → There
 pat_lent None = None
 pat_lent (Some x) = Some (x.0, x.1.now)
 
 -- what the code does with it, which is missing where there is none
 
-abbrev pub lower_there : Spot → There → Table → Lowering (PatId × Table)
+abbrev pub lower_there : ResolveCtx → There → Table → Lowering (PatId × Table)
 lower_there at None t = alone missing_pat t
-lower_there at (Some x) t = lower_pat (answered_pat (at_place at x.0) x.1) t
+lower_there at (Some x) t = lower_pat (resolved_pat (at_place at x.0) x.1) t
 
-abbrev pub element_there : Spot → There → Table → Lowering (Option PatId × Table)
+abbrev pub element_there : ResolveCtx → There → Table → Lowering (Option PatId × Table)
 element_there at None t = missing_pat >>= (λ i. pure (Some i, t))
-element_there at (Some x) t = element_steps (answered_pat (at_place at x.0) x.1) t
+element_there at (Some x) t = element_steps (resolved_pat (at_place at x.0) x.1) t
 
-abbrev pub type_pat_there : Spot → There → Lowering PatId
+abbrev pub type_pat_there : ResolveCtx → There → Lowering PatId
 type_pat_there at None = missing_pat
 type_pat_there at (Some x) =
-    let here = at_place at x.0 in lower_type_pat (type_pat_of here.answers.lang_items (answered_pat here x.1))
+    let here = at_place at x.0 in lower_type_pat (type_pat_of here.answers.lang_items (resolved_pat here x.1))
 
 -- the node leads to what is missing
 abbrev pub missing_led : Pointer → Lowering PatId
@@ -72,16 +72,16 @@ point_named s r = point_pat s r.0 >> pure r
 abbrev pub point_lone : Pointer → PatId → Lowering PatId
 point_lone s i = point_pat s i >> pure i
 
--- as what is assigned to
+-- as the assignee expression
 
-abbrev pub written_expr : Spot → Pointer → AstMacroCall → Expr
+abbrev pub written_expr : ResolveCtx → Pointer → AstMacroCall → Expr
 written_expr at s c = entered_expr at.answers (into at) c at.place s
 
 -- the expression that is found, and where it is read
 abbrev pub ExprThere : Type 0
-ExprThere = Option (Place × AstExpr)
+ExprThere = Option (LowerCtx × AstExpr)
 
-abbrev pub expr_in : Place → Option AstFragment → ExprThere
+abbrev pub expr_in : LowerCtx → Option AstFragment → ExprThere
 expr_in q (Some (fragment.Expr x)) = Some (q, x)
 expr_in q _ = None
 
@@ -90,19 +90,19 @@ expr_there None = None
 expr_there (Some x) = expr_in x.0 x.1
 
 -- the same as it is lent
-abbrev pub expr_lent : Option (Place × Bor AstExpr) → ExprThere
+abbrev pub expr_lent : Option (LowerCtx × Bor AstExpr) → ExprThere
 expr_lent None = None
 expr_lent (Some x) = Some (x.0, x.1.now)
 
 -- what the code does with it, with the outermost call, where it is an element that comes out of calls
-abbrev pub aim_there : Spot → Option Pointer → Pointer → ExprThere → Lowering Aim
-aim_there at call s None = uncalled_aim call s
-aim_there at call s (Some x) = do
+abbrev pub assignee_there : ResolveCtx → Option Pointer → Pointer → ExprThere → Lowering Assignee
+assignee_there at call s None = uncalled_assignee call s
+assignee_there at call s (Some x) = do
   let here = at_place at x.0
-  a ← aim_of (found_at here) call (answered here x.1)
-  called_aim s (outermost call (own_pointer here x.1)) a
+  a ← assignee_of (found_at here) call (resolved_expr here x.1)
+  called_assignee s (outermost call (own_pointer here x.1)) a
 
 -- as an element at this outermost call
-abbrev pub target_element_there : Spot → Pointer → ExprThere → Lowering (Option PatId)
+abbrev pub target_element_there : ResolveCtx → Pointer → ExprThere → Lowering (Option PatId)
 target_element_there at call None = some (missing_target (Some call))
-target_element_there at call (Some x) = let here = at_place at x.0 in element_found (found_at here) (Some call) (answered here x.1)
+target_element_there at call (Some x) = let here = at_place at x.0 in element_found (found_at here) (Some call) (resolved_expr here x.1)

@@ -2,8 +2,8 @@ pub mod Bare
 pub mod Bindings
 pub mod Methods
 pub mod Calls
-pub mod Handlers
-pub mod Aims
+pub mod Callbacks
+pub mod Assignees
 pub mod TypePats
 pub mod Nested
 pub mod TargetLists

@@ -13,19 +13,19 @@ use Rattle.hir_store.specs.declared.ids.PatId.{PatId}
 use Rattle.hir_store.specs.declared.name.Name.{Name}
 use Rattle.hir_store.specs.declared.name.Name.TheVariants as name
 use Rattle.hir_store.specs.declared.pat.RecordFieldPat.{RecordFieldPat}
-use Rattle.hir_env.specs.Spot.{Spot}
+use Rattle.hir_env.specs.ResolveCtx.{ResolveCtx}
 use Rattle.hir_env.specs.Answering.{name_or_missing, truth}
 use Rattle.hir_env.specs.Pats.{name_hygiene, pat_at}
-use Rattle.hir_env.specs.Answered as tree
-use Rattle.hir_env.specs.Answered.{Pat, OptionPat, Pats, PatFields, PatField, Signed, Use}
+use Rattle.hir_env.specs.ResolvedTree as tree
+use Rattle.hir_env.specs.ResolvedTree.{Pat, OptionPat, Pats, PatFields, PatField, Signed, Use}
 use Rattle.hir_env.specs.PatLayers.{PatKindLayer}
 use Rattle.hir_env.specs.Whole.{into, reader, written}
-use Rattle.hir_lower_form.specs.Builder.{Builder}
-use Rattle.hir_lower_form.specs.Calls.{told}
-use Rattle.hir_lower_form.specs.Lowering.{Checked, Lowering, ◌>>=◌, ◌>>◌, alloc_pat, point_pat, pure}
-use Rattle.hir_lower_form.specs.Lower as spec
-use Rattle.hir_lower_form.specs.Pats.{Elements, Table, dots_after, no_elements, stored_pat_leaf, name_pat_of, path_pat_form}
-use Rattle.hir_lower_form.specs.Pats.{barred_pat_form, literal_pat_form, missing_pat, range_pat_form}
+use Rattle.hir_lower_builder.specs.Builder.{Builder}
+use Rattle.hir_lower_builder.specs.Calls.{emitted}
+use Rattle.hir_lower_builder.specs.Lowering.{Checked, Lowering, ◌>>=◌, ◌>>◌, alloc_pat, point_pat, pure}
+use Rattle.hir_lower_builder.specs.Lower as spec
+use Rattle.hir_lower_builder.specs.Pats.{Elements, Table, dots_after, no_elements, stored_pat_leaf, name_pat_of, path_pat_form}
+use Rattle.hir_lower_builder.specs.Pats.{barred_pat_form, literal_pat_form, missing_pat, range_pat_form}
 use Rattle.hir_lower_pat.specs.Bindings.{LowersNamed}
 use Rattle.hir_lower_pat.specs.declared.bindings.Bindings.{Bindings}
 
@@ -73,7 +73,7 @@ point_element at r = point_found at r.0 >>= (λ o. pure (o, r.1))
 -- a pattern as an element, none where it is two dots, be it through calls
 abbrev pub element_steps : Pat → Table → Lowering (Option PatId × Table)
 element_steps (tree.leaf_pat at tree.rest_leaf) t = pure (None, t)
-element_steps (tree.macro_pat at called (tree.some_pat p)) t = told called >> (element_steps p t >>= point_element at)
+element_steps (tree.macro_pat at called (tree.some_pat p)) t = emitted called >> (element_steps p t >>= point_element at)
 element_steps (tree.macro_pat at tree.callless tree.no_pat) t = spec.present_pat (tree.some_pat (tree.leaf_pat at tree.broken_leaf)) t
 element_steps p t = spec.present_pat (tree.some_pat p) t
 
@@ -143,9 +143,9 @@ abbrev pub plain_truth : Option Bool → Signed
 plain_truth holds = record { minus = false; literal = truth holds }
 
 -- a pattern of this kind, at this node
-abbrev pub kind_at : Spot → Pointer → AstPatKind → Pat
+abbrev pub kind_at : ResolveCtx → Pointer → AstPatKind → Pat
 kind_at at s k = pat_at at.answers (reader at.answers (into at)) (out-PatKind k) at.place s
 
 -- a use of a name in this mode
-abbrev pub use_with : Spot → Option AstName → BindingAnnotation → Use
+abbrev pub use_with : ResolveCtx → Option AstName → BindingAnnotation → Use
 use_with at n mode = record { name = name_or_missing n; hygiene = name_hygiene at.answers at.place n; mode = mode }

@@ -9,24 +9,24 @@ use Rattle.hir_store.specs.declared.pat.Pat.TheVariants as pat
 use Rattle.hir_store.specs.declared.path.Path.{Path as HirPath}
 use Rattle.hir_env.specs.Answers.{Answers}
 use Rattle.hir_env.specs.Calls.{asked_call}
-use Rattle.hir_env.specs.Spot.{Spot}
+use Rattle.hir_env.specs.ResolveCtx.{ResolveCtx}
 use Rattle.hir_env.specs.declared.expand.FragmentKind.TheVariants as kind
-use Rattle.hir_env.specs.declared.place.Place.{Place}
-use Rattle.hir_env.specs.Answered as tree
-use Rattle.hir_env.specs.Answered.{Expr, Exprs, OptionPath, Origin, Path}
+use Rattle.hir_env.specs.declared.ctx.LowerCtx.{LowerCtx}
+use Rattle.hir_env.specs.ResolvedTree as tree
+use Rattle.hir_env.specs.ResolvedTree.{Expr, Exprs, OptionPath, Origin, Path}
 use Rattle.hir_env.specs.Targets.{callee_path, pointer_of, target_of}
-use Rattle.hir_env.specs.Whole.{answered}
-use Rattle.hir_lower_form.specs.Calls.{Found, entered_at, found_in}
-use Rattle.hir_lower_form.specs.Lowering.{Lowering, ◌>>=◌, ◌>>◌, pure}
-use Rattle.hir_lower_form.specs.Lower.{lower_path, lower_target}
-use Rattle.hir_lower_form.specs.Methods.{at_place}
-use Rattle.hir_lower_form.specs.Pats.{Elements}
-use Rattle.hir_lower_form.specs.Targets.{alloc_target, call_target_of, rest_target}
-use Rattle.hir_lower_pat.specs.Aims.{element_found, noted}
+use Rattle.hir_env.specs.Whole.{resolved_expr}
+use Rattle.hir_lower_builder.specs.Calls.{Found, entered_at, found_in}
+use Rattle.hir_lower_builder.specs.Lowering.{Lowering, ◌>>=◌, ◌>>◌, pure}
+use Rattle.hir_lower_builder.specs.Lower.{lower_path, lower_target}
+use Rattle.hir_lower_builder.specs.Methods.{at_place}
+use Rattle.hir_lower_builder.specs.Pats.{Elements}
+use Rattle.hir_lower_builder.specs.Targets.{alloc_target, call_target_of, rest_target}
+use Rattle.hir_lower_pat.specs.Assignees.{element_found, track_calls}
 use Rattle.hir_lower_pat.specs.Calls.{ExprThere, expr_there, target_element_there}
 use Rattle.hir_lower_pat.specs.Methods.{add_element}
-use Rattle.hir_lower_pat.specs.declared.aims.Aim.{Aim}
-use Rattle.hir_lower_pat.specs.declared.aims.Aim.TheVariants as aim
+use Rattle.hir_lower_pat.specs.declared.assignees.Assignee.{Assignee}
+use Rattle.hir_lower_pat.specs.declared.assignees.Assignee.TheVariants as assignee
 
 -- tuples and calls
 
@@ -37,7 +37,7 @@ part_behind done part = do
   pure (add_element done o)
 
 -- a call as an element, with the outermost one: it is told, and then what it stands for is the element
-abbrev pub element_call : Spot → Pointer → AstMacroCall → Lowering (Option PatId)
+abbrev pub element_call : ResolveCtx → Pointer → AstMacroCall → Lowering (Option PatId)
 element_call at outer c = do
   f ← entered_at at kind.Expr c
   target_element_there at outer (expr_there f)
@@ -108,7 +108,7 @@ callee_read (Some p) = lower_path p
 
 -- the calls that a callee comes out of are told, and then its path is read
 abbrev pub callee_steps : Expr → Lowering (Option HirPath)
-callee_steps e = noted e >> callee_read (callee_path e)
+callee_steps e = track_calls e >> callee_read (callee_path e)
 
 -- a call of it
 abbrev pub call_steps : Origin → Expr → Lowering Elements → Lowering PatId
@@ -116,30 +116,30 @@ call_steps at f parts = do
   p ← callee_steps f
   call_target_of at parts p
 
-abbrev pub called_steps : Origin → Expr → Lowering Elements → Lowering Aim
+abbrev pub called_steps : Origin → Expr → Lowering Elements → Lowering Assignee
 called_steps at f parts = do
   i ← call_steps at f parts
-  pure (aim.Pat i)
+  pure (assignee.Pat i)
 
 -- what a call stands for as an expression, where it is entered, of which nothing is told
-abbrev pub behind_left : Answers → AstMacroCall → ℕ → Place → Found
+abbrev pub behind_left : Answers → AstMacroCall → ℕ → LowerCtx → Found
 behind_left env c zero p = None
 behind_left env c (suc n) p = found_in n p (asked_call env kind.Expr c p)
 
-abbrev pub expr_behind : Spot → AstMacroCall → ExprThere
+abbrev pub expr_behind : ResolveCtx → AstMacroCall → ExprThere
 expr_behind at c = expr_there (behind_left at.answers c at.place.left at.place)
 
 -- the path that it is as a callee
-abbrev pub path_there : Spot → ExprThere → Option OptionPath
+abbrev pub path_there : ResolveCtx → ExprThere → Option OptionPath
 path_there at None = None
-path_there at (Some x) = callee_path (answered (at_place at x.0) x.1)
+path_there at (Some x) = callee_path (resolved_expr (at_place at x.0) x.1)
 
 -- a call as a callee: it is told, and then what it stands for is the callee
-abbrev pub callee_there : Spot → ExprThere → Lowering (Option HirPath)
+abbrev pub callee_there : ResolveCtx → ExprThere → Lowering (Option HirPath)
 callee_there at None = pure None
-callee_there at (Some x) = callee_steps (answered (at_place at x.0) x.1)
+callee_there at (Some x) = callee_steps (resolved_expr (at_place at x.0) x.1)
 
-abbrev pub callee_call : Spot → AstMacroCall → Lowering (Option HirPath)
+abbrev pub callee_call : ResolveCtx → AstMacroCall → Lowering (Option HirPath)
 callee_call at c = do
   f ← entered_at at kind.Expr c
   callee_there at (expr_there f)

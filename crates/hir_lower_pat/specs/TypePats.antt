@@ -5,11 +5,11 @@ use Rattle.hir_store.specs.Stored.{Stored}
 use Rattle.hir_store.specs.declared.ids.ExprId.{ExprId}
 use Rattle.hir_env.specs.PatLayers.{PatKindLayer}
 use Rattle.hir_env.specs.Whole.{written}
-use Rattle.hir_lower_form.specs.Lowering.{Lowering, ◌>>=◌, ◌>>◌, pure, close_barrier, enter_root, leave_root, open_barrier}
+use Rattle.hir_lower_builder.specs.Lowering.{Lowering, ◌>>=◌, ◌>>◌, pure, close_barrier, enter_root, leave_root, open_barrier}
 
 -- whether a `yield` stood around it, and whether a root was being lowered before
-abbrev pub opened : Lowering (Bool × Bool)
-opened = do
+abbrev pub open_root : Lowering (Bool × Bool)
+open_root = do
   outside ← open_barrier
   outer ← enter_root
   pure (outside, outer)

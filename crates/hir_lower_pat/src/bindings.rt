@@ -1,19 +1,19 @@
 //! The bindings of one top pattern.
 
 ghost use Rattle.std.specs.Prelude.{◌≡◌, ◌<◌, ◌≤◌, ◌+◌, ◌++◌, ◌∷◌, [], None, IfSome, OnOk, Ok, length, option_map};
-ghost use Rattle.hir_binding.specs.Bindings.{count_with, depth, name_count, noted};
+ghost use Rattle.hir_binding.specs.Bindings.{count_with, depth, name_count, tracked};
 ghost use Rattle.hir_store.specs.Range.{HasBindingId, HasNone};
 ghost use Rattle.hir_store.specs.Stored.{Stored};
-ghost use Rattle.hir_lower_form.specs.Lowering.{Lowers};
-ghost use Rattle.hir_lower_form.specs.Pats as spec;
-ghost use Rattle.hir_lower_form.specs.Pats.{binding_of, no_names, note_entered, note_left, note_next, note_use, number_of};
+ghost use Rattle.hir_lower_builder.specs.Lowering.{Lowers};
+ghost use Rattle.hir_lower_builder.specs.Pats as spec;
+ghost use Rattle.hir_lower_builder.specs.Pats.{binding_of, no_names, track_entered, track_left, track_next, track_use, number_of};
 ghost use Rattle.hir_lower_pat.specs.Bindings.{HasNames, LowersNamed, table_of};
 
 use hir_binding::binding::BindingAnnotation;
 use hir_binding::list::BindingList;
-use hir_lower_form::builder::BodyBuilder;
-use hir_lower_form::storing::Storing;
-use hir_store::fault::StoreFault;
+use hir_lower_builder::builder::BodyBuilder;
+use hir_lower_builder::store_sink::StoreSink;
+use hir_store::error::StoreError;
 use hir_store::hir::Binding;
 use hir_store::ids::{BindingId, HygieneId};
 use hir_store::keyed::Keyed;
@@ -30,7 +30,7 @@ pub struct Bindings {
 
 impl Bindings {
     /// No name has a use. It takes no memory.
-    #[tactic(auto, using(crate::proofs::NameLemmas::all_noted))]
+    #[tactic(auto, using(crate::proofs::NameLemmas::all_tracked))]
     pub fn new(alloc: Global) -> Bindings
         ensures table { table_of result ≡ no_names }
         ensures names { (s : Stored) → HasNames s result }
@@ -51,11 +51,11 @@ impl Bindings {
     }
 
     /// Notes a use of the name with this number.
-    #[tactic(auto, using(crate::proofs::NameLemmas::all_noted_on))]
-    fn note(&mut self, number: usize, mode: BindingAnnotation) -> Result<(), AllocError>
+    #[tactic(auto, using(crate::proofs::NameLemmas::all_tracked_on))]
+    fn track(&mut self, number: usize, mode: BindingAnnotation) -> Result<(), AllocError>
         requires { number ≤ name_count self.old.list }
         ensures ids { self.new.ids ≡ self.old.ids }
-        ensures noted { OnOk result (noted self.new.list ≡ note_use number mode (noted self.old.list)) }
+        ensures tracked { OnOk result (tracked self.new.list ≡ track_use number mode (tracked self.old.list)) }
         ensures count { OnOk result (name_count self.new.list ≡ count_with number (name_count self.old.list)) }
         ensures depth { depth self.new.list ≡ depth self.old.list }
     {
@@ -74,12 +74,12 @@ impl Bindings {
 
     /// The first use of a name makes its binding.
     #[tactic(auto, using(crate::proofs::NameLemmas::next_counted, crate::proofs::NameLemmas::past_more))]
-    fn first_use<I: Storing>(
+    fn first_use<I: StoreSink>(
         &mut self,
         state: &mut BodyBuilder<I>,
         key: (Name, HygieneId),
         mode: BindingAnnotation,
-    ) -> Result<BindingId, StoreFault>
+    ) -> Result<BindingId, StoreError>
         requires new { binding_of key (table_of self.old) ≡ None }
         requires names { HasNames state.old.stored self.old }
         ensures { LowersNamed HasBindingId
@@ -93,20 +93,20 @@ impl Bindings {
             hygiene: key.1,
             problems: None,
         })?;
-        self.note(number, mode)?;
+        self.track(number, mode)?;
         self.insert(key, id)?;
         Ok(id)
     }
 
     /// The binding of a name, made where this is its first use.
-    #[tactic(auto, using(crate::proofs::NameLemmas::found_exists, crate::proofs::NameLemmas::known_counted), unfolding(hir_lower_form::specs::Pats::use_name))]
-    pub fn use_name<I: Storing>(
+    #[tactic(auto, using(crate::proofs::NameLemmas::found_exists, crate::proofs::NameLemmas::known_counted), unfolding(hir_lower_builder::specs::Pats::use_name))]
+    pub fn use_name<I: StoreSink>(
         &mut self,
         state: &mut BodyBuilder<I>,
         name: Name,
         hygiene: HygieneId,
         mode: BindingAnnotation,
-    ) -> Result<BindingId, StoreFault>
+    ) -> Result<BindingId, StoreError>
         requires { HasNames state.old.stored self.old }
         ensures { LowersNamed HasBindingId (spec.use_name (record { name = name; hygiene = hygiene; mode = mode }))
             self.old state.old result self.new state.new }
@@ -114,7 +114,7 @@ impl Bindings {
         let key = (name, hygiene);
         match self.find(&key) {
             Some((number, id)) => {
-                self.note(number, mode)?;
+                self.track(number, mode)?;
                 Ok(id)
             }
             None => self.first_use(state, key, mode),
@@ -122,10 +122,10 @@ impl Bindings {
     }
 
     /// Into the first alternative of an or-pattern.
-    #[tactic(auto, using(crate::proofs::NameLemmas::all_noted_on))]
+    #[tactic(auto, using(crate::proofs::NameLemmas::all_tracked_on))]
     pub fn enter_or(&mut self) -> Result<(), AllocError>
         ensures ids { self.new.ids ≡ self.old.ids }
-        ensures noted { OnOk result (noted self.new.list ≡ note_entered (noted self.old.list)) }
+        ensures tracked { OnOk result (tracked self.new.list ≡ track_entered (tracked self.old.list)) }
         ensures count { name_count self.new.list ≡ name_count self.old.list }
         ensures depth { OnOk result (depth self.new.list ≡ depth self.old.list + 1) }
     {
@@ -133,10 +133,10 @@ impl Bindings {
     }
 
     /// From one alternative to the next.
-    #[tactic(auto, using(crate::proofs::NameLemmas::all_noted))]
+    #[tactic(auto, using(crate::proofs::NameLemmas::all_tracked))]
     pub fn next_alternative(&mut self)
         ensures ids { self.new.ids ≡ self.old.ids }
-        ensures noted { noted self.new.list ≡ note_next (noted self.old.list) }
+        ensures tracked { tracked self.new.list ≡ track_next (tracked self.old.list) }
         ensures count { name_count self.new.list ≡ name_count self.old.list }
         ensures depth { depth self.new.list ≡ depth self.old.list }
     {
@@ -144,11 +144,11 @@ impl Bindings {
     }
 
     /// Out of the last alternative of an or-pattern.
-    #[tactic(auto, using(crate::proofs::NameLemmas::all_noted_on))]
+    #[tactic(auto, using(crate::proofs::NameLemmas::all_tracked_on))]
     pub fn leave_or(&mut self) -> Result<(), AllocError>
         requires { 0 < depth self.old.list }
         ensures ids { self.new.ids ≡ self.old.ids }
-        ensures noted { OnOk result (noted self.new.list ≡ note_left (noted self.old.list)) }
+        ensures tracked { OnOk result (tracked self.new.list ≡ track_left (tracked self.old.list)) }
         ensures count { name_count self.new.list ≡ name_count self.old.list }
         ensures depth { depth self.new.list + 1 ≡ depth self.old.list }
     {
@@ -156,8 +156,8 @@ impl Bindings {
     }
 
     /// Writes the problem that each binding shows. It takes no memory.
-    #[tactic(auto, using(crate::proofs::NameLemmas::drop_entry, crate::proofs::NameLemmas::drop_none), unfolding(hir_lower_form::specs::Pats::settle))]
-    pub fn settle<I: Storing>(&self, state: &mut BodyBuilder<I>)
+    #[tactic(auto, using(crate::proofs::NameLemmas::drop_entry, crate::proofs::NameLemmas::drop_none), unfolding(hir_lower_builder::specs::Pats::settle))]
+    pub fn settle<I: StoreSink>(&self, state: &mut BodyBuilder<I>)
         requires { HasNames state.old.stored self.now }
         ensures { Lowers HasNone (spec.settle (table_of self.now)) state.old (Ok tt) state.new }
     {

@@ -1,23 +1,23 @@
-//! Calls of macros as patterns, and as what is assigned to.
+//! Macro calls as patterns, and as the assignee expression.
 
 ghost use Rattle.std.specs.Prelude.{◌≡◌};
 ghost use Rattle.hir_store.specs.Range.{HasPat, HasPatOption};
-ghost use Rattle.hir_lower_form.specs.Calls.{found_of};
-ghost use Rattle.hir_lower_form.specs.Lowering.{Lowers};
+ghost use Rattle.hir_lower_builder.specs.Calls.{found_of};
+ghost use Rattle.hir_lower_builder.specs.Lowering.{Lowers};
 ghost use Rattle.hir_lower_pat.specs.Calls as spec;
 ghost use Rattle.hir_lower_pat.specs.Methods.{point_found};
 
 use hir_base::node::{AstPtr, InFile};
-use hir_env::place::Place;
-use hir_lower_form::builder::BodyBuilder;
-use hir_lower_form::calls::Entered;
-use hir_lower_form::storing::Storing;
-use hir_store::fault::StoreFault;
+use hir_env::ctx::LowerCtx;
+use hir_lower_builder::builder::BodyBuilder;
+use hir_lower_builder::calls::Entered;
+use hir_lower_builder::store_sink::StoreSink;
+use hir_store::error::StoreError;
 use hir_store::ids::PatId;
 use hir_syntax::ast::{self, Fragment};
 
 /// The expression that a call stands for, and where it is read.
-pub fn expr_of<'a>(entered: Entered<'a>) -> Option<(Place, &'a ast::Expr)>
+pub fn expr_of<'a>(entered: Entered<'a>) -> Option<(LowerCtx, &'a ast::Expr)>
     ensures { spec.expr_lent result ≡ spec.expr_there (found_of entered.entry) }
 {
     match entered {
@@ -27,7 +27,7 @@ pub fn expr_of<'a>(entered: Entered<'a>) -> Option<(Place, &'a ast::Expr)>
 }
 
 /// The pattern that a call stands for, and where it is read.
-pub fn pat_of<'a>(entered: Entered<'a>) -> Option<(Place, &'a ast::Pat)>
+pub fn pat_of<'a>(entered: Entered<'a>) -> Option<(LowerCtx, &'a ast::Pat)>
     ensures { spec.pat_lent result ≡ spec.pat_there (found_of entered.entry) }
 {
     match entered {
@@ -37,10 +37,10 @@ pub fn pat_of<'a>(entered: Entered<'a>) -> Option<(Place, &'a ast::Pat)>
 }
 
 /// What stands for no pattern is missing, and its node leads there.
-pub fn missing_form<I: Storing>(
+pub fn missing_form<I: StoreSink>(
     state: &mut BodyBuilder<I>,
     at: InFile<AstPtr>,
-) -> Result<PatId, StoreFault>
+) -> Result<PatId, StoreError>
     ensures { Lowers HasPat (spec.missing_led at) state.old result state.new }
 {
     let id = state.missing_pat()?;
@@ -49,11 +49,11 @@ pub fn missing_form<I: Storing>(
 }
 
 /// The node of a call leads to what it stands for.
-pub fn pointed_form<I: Storing>(
+pub fn pointed_form<I: StoreSink>(
     state: &mut BodyBuilder<I>,
     at: InFile<AstPtr>,
     id: PatId,
-) -> Result<PatId, StoreFault>
+) -> Result<PatId, StoreError>
     requires { HasPat state.old.stored id }
     ensures { Lowers HasPat (spec.point_lone at id) state.old result state.new }
 {
@@ -62,11 +62,11 @@ pub fn pointed_form<I: Storing>(
 }
 
 /// The node of a call leads to the element that it stands for, unless that is two dots.
-pub fn point_element<I: Storing>(
+pub fn point_element<I: StoreSink>(
     state: &mut BodyBuilder<I>,
     at: InFile<AstPtr>,
     found: Option<PatId>,
-) -> Result<Option<PatId>, StoreFault>
+) -> Result<Option<PatId>, StoreError>
     requires { HasPatOption state.old.stored found }
     ensures { Lowers HasPatOption (point_found at found) state.old result state.new }
 {

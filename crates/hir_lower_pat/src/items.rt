@@ -1,7 +1,7 @@
 //! Items that the language itself names, where lowering puts them in.
 
 ghost use Rattle.std.specs.Prelude.{◌≡◌};
-ghost use Rattle.hir_lower_form.specs.Ranges as spec;
+ghost use Rattle.hir_lower_builder.specs.Ranges as spec;
 
 use hir_store::hir::Expr;
 use hir_store::ids::{HygieneId, LangItemId};

@@ -2,7 +2,7 @@
 //! of macros that stand for them. Their definitions and lemmas stand here, too.
 #![tactic(auto)]
 
-pub mod aims;
+pub mod assignees;
 pub mod bindings;
 pub mod callees;
 pub mod calls;

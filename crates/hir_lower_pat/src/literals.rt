@@ -2,9 +2,9 @@
 
 ghost use Rattle.std.specs.Prelude.{◌≡◌, IfOk};
 ghost use Rattle.hir_env.specs.Pats.{minus_fits};
-ghost use Rattle.hir_lower_form.specs.Pats as spec;
+ghost use Rattle.hir_lower_builder.specs.Pats as spec;
 
-use hir_lower_form::names::literal;
+use hir_lower_builder::names::literal;
 use hir_store::hir::Literal;
 use hir_syntax::ast::{self, LiteralKind};
 use std::alloc::AllocError;

@@ -2,18 +2,18 @@
 
 ghost use Rattle.std.specs.Prelude.{◌≡◌, IfOk};
 ghost use Rattle.hir_syntax.specs.declared.ast.Path.{Path as AstPath};
-ghost use Rattle.hir_env.specs.Answered.{OptionPath};
+ghost use Rattle.hir_env.specs.ResolvedTree.{OptionPath};
 ghost use Rattle.hir_env.specs.Pats.{plain_path};
-ghost use Rattle.hir_env.specs.Spot.{Spot};
+ghost use Rattle.hir_env.specs.ResolveCtx.{ResolveCtx};
 ghost use Rattle.hir_env.specs.Whole.{path_part};
-ghost use Rattle.hir_lower_form.specs.Methods.{LowersPath, at_place};
-ghost use Rattle.hir_lower_form.specs.Nests.{IfPresent};
+ghost use Rattle.hir_lower_builder.specs.Methods.{LowersPath, at_place};
+ghost use Rattle.hir_lower_builder.specs.Nests.{IfPresent};
 
-use hir_env::place::Place;
-use hir_lower_form::builder::BodyBuilder;
-use hir_lower_form::parts::{LowerPieces, Lowerer};
-use hir_lower_form::storing::Storing;
-use hir_store::fault::StoreFault;
+use hir_env::ctx::LowerCtx;
+use hir_lower_builder::builder::BodyBuilder;
+use hir_lower_builder::parts::{LowerExprs, Lowerer};
+use hir_lower_builder::store_sink::StoreSink;
+use hir_store::error::StoreError;
 use hir_store::name::Name;
 use hir_store::path::{ModPath, Path, PathKind};
 use hir_syntax::{Boxed, Seq, ast};
@@ -24,17 +24,17 @@ use std::alloc::{AllocError, Global};
 pub trait PathPart {
     ghost can: { (AstPath → Type 0) → Self → Type 0 };
 
-    ghost read: { Spot → Self → OptionPath };
+    ghost read: { ResolveCtx → Self → OptionPath };
 
     /// The path, read at this place, or none where it is absent or refused.
-    fn lower<I: Storing, P: LowerPieces<I>>(
+    fn lower<I: StoreSink, P: LowerExprs<I>>(
         &self,
         lowerer: &Lowerer<P>,
         state: &mut BodyBuilder<I>,
-        place: Place,
-    ) -> Result<Option<Path>, StoreFault>
+        place: LowerCtx,
+    ) -> Result<Option<Path>, StoreError>
         requires { can ((P.can lowerer.now.parts).path place) self.now }
-        ensures { LowersPath (read (at_place (P.spot lowerer.now.parts) place) self.now) state.old result state.new };
+        ensures { LowersPath (read (at_place (P.rctx lowerer.now.parts) place) self.now) state.old result state.new };
 }
 
 impl PathPart for Option<Boxed<ast::Path>> {
@@ -42,12 +42,12 @@ impl PathPart for Option<Boxed<ast::Path>> {
 
     ghost read = { path_part };
 
-    fn lower<I: Storing, P: LowerPieces<I>>(
+    fn lower<I: StoreSink, P: LowerExprs<I>>(
         &self,
         lowerer: &Lowerer<P>,
         state: &mut BodyBuilder<I>,
-        place: Place,
-    ) -> Result<Option<Path>, StoreFault> {
+        place: LowerCtx,
+    ) -> Result<Option<Path>, StoreError> {
         lowerer.path_if_present(state, place, self)
     }
 }

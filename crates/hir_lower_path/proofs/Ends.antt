@@ -1,16 +1,16 @@
 -- A list of segments is read from its end.
 use Rattle.std.proofs.Common.{◌≡◌, ◌∙◌, refl, ap, List, [], ◌∷◌, ◌++◌, Option, Ok, Err, false}
-use Rattle.hir_env.specs.declared.place.Place.{Place}
-use Rattle.hir_env.specs.Answered.{Segment}
+use Rattle.hir_env.specs.declared.ctx.LowerCtx.{LowerCtx}
+use Rattle.hir_env.specs.ResolvedTree.{Segment}
 use Rattle.hir_env.specs.Paths.{segments_of, segment_or_absent}
-use Rattle.hir_lower_form.specs.declared.walk.PathWalk.{PathWalk}
-use Rattle.hir_lower_form.specs.declared.walk.Reading.{Reading}
-use Rattle.hir_lower_form.specs.declared.walk.Reading.TheVariants.{Refused, Ended, Open}
-use Rattle.hir_lower_form.specs.Builder.{Builder}
-use Rattle.hir_lower_form.specs.Lowering.{Checked, Lowering, go_on, pure}
-use Rattle.hir_lower_form.specs.Lower.{read_each, read_segment}
-use Rattle.hir_lower_form.specs.Nests.{Each}
-use Rattle.hir_lower_form.specs.Paths.{proceed}
+use Rattle.hir_lower_builder.specs.declared.walk.PathWalk.{PathWalk}
+use Rattle.hir_lower_builder.specs.declared.walk.Reading.{Reading}
+use Rattle.hir_lower_builder.specs.declared.walk.Reading.TheVariants.{Refused, Ended, Open}
+use Rattle.hir_lower_builder.specs.Builder.{Builder}
+use Rattle.hir_lower_builder.specs.Lowering.{Checked, Lowering, go_on, pure}
+use Rattle.hir_lower_builder.specs.Lower.{read_each, read_segment}
+use Rattle.hir_lower_builder.specs.Nests.{Each}
+use Rattle.hir_lower_builder.specs.Paths.{proceed}
 
 pub each_before : {A : Type 0} (P : A → Type 0) (xs : List A) (x : A) → Each P (xs ++ x ∷ []) → Each P xs
 each_before P [] x h = tt
@@ -37,7 +37,7 @@ proceed_then f g (Ok (Open w)) b = refl
 proceed_then f g (Err e) b = refl
 
 -- the last is read before those before it
-pub read_each_last : {A : Type 0} (read : A → Place → Segment) (p : Place) (xs : List (Option A)) (x : Option A)
+pub read_each_last : {A : Type 0} (read : A → LowerCtx → Segment) (p : LowerCtx) (xs : List (Option A)) (x : Option A)
     (w : PathWalk) (b : Builder) → read_each (segments_of read (xs ++ x ∷ []) p) w b
     ≡ go_on (read_segment false (segment_or_absent read x p) w b).0 (read_segment false (segment_or_absent read x p) w b).1
     (λ r. proceed r (read_each (segments_of read xs p)))

@@ -2,16 +2,17 @@
 use Rattle.std.proofs.Common.{◌≡◌, subst, sym, Option, Some, None}
 use Rattle.hir_store.specs.Range.{HasType}
 use Rattle.hir_store.specs.declared.ids.TypeRefId.{TypeRefId}
-use Rattle.hir_env.specs.declared.place.Place.{Place}
-use Rattle.hir_env.specs.Spot.{Spot}
+use Rattle.hir_env.specs.declared.ctx.LowerCtx.{LowerCtx}
+use Rattle.hir_env.specs.ResolveCtx.{ResolveCtx}
 use Rattle.hir_env.specs.Whole.{ret_part, type_part}
 use Rattle.hir_env.specs.Wrapped.{AstRetType}
-use Rattle.hir_lower_form.specs.Builder.{Builder}
-use Rattle.hir_lower_form.specs.Lower.{output_part}
-use Rattle.hir_lower_form.specs.Lowering.{Checked, Lowers}
-use Rattle.hir_lower_form.specs.Methods.{LowersTypeOpt, at_place}
+use Rattle.hir_lower_builder.specs.Builder.{Builder}
+use Rattle.hir_lower_builder.specs.Lower.{output_part}
+use Rattle.hir_lower_builder.specs.Lowering.{Checked, Lowers}
+use Rattle.hir_lower_builder.specs.Methods.{LowersTypeOpt, at_place}
 
-pub output_of : (at : Spot) (p : Place) (ret : Option AstRetType) (ty : AstRetType) (old : Builder) (r : Checked TypeRefId) (new : Builder)
+pub output_of : (at : ResolveCtx) (p : LowerCtx) (ret : Option AstRetType) (ty : AstRetType) (old : Builder) (r : Checked TypeRefId)
+    (new : Builder)
     → ret ≡ Some ty → p ≡ at.place → LowersTypeOpt None (type_part (at_place at p) ty) old r new
     → Lowers HasType (output_part (ret_part at ret)) old r new
 output_of at p ret ty old r new e f h = subst (λ x. Lowers HasType (output_part (ret_part at x)) old r new) (sym e)

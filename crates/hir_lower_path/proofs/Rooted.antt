@@ -11,7 +11,7 @@ use Rattle.hir_syntax.specs.declared.ast.SegmentKind.{SegmentKind}
 use Rattle.hir_syntax.specs.declared.ast.SegmentKind.TheVariants as kind
 use Rattle.hir_store.specs.Stored.{Stored}
 use Rattle.hir_store.specs.Range.{Grows}
-use Rattle.hir_store.specs.declared.fault.StoreFault.{StoreFault}
+use Rattle.hir_store.specs.declared.error.StoreError.{StoreError}
 use Rattle.hir_store.specs.declared.ids.TypeRefId.{TypeRefId}
 use Rattle.hir_store.specs.declared.ids.CrateId.{CrateId}
 use Rattle.hir_store.specs.declared.name.Name.{Name}
@@ -21,29 +21,29 @@ use Rattle.hir_store.specs.declared.path.PathKind.{PathKind}
 use Rattle.hir_store.specs.declared.path.PathKind.TheVariants as path_kind
 use Rattle.hir_store.specs.declared.path.Path.{Path as HirPath}
 use Rattle.hir_env.specs.Answers.{Answers}
-use Rattle.hir_env.specs.declared.place.Place.{Place}
-use Rattle.hir_env.specs.Answered as tree
-use Rattle.hir_env.specs.Answered.{OptionPath, OptionType, Path, Segment, SegmentArgs, Type_}
-use Rattle.hir_env.specs.LocalPaths.{at_local_root, behind_root, is_bare, lacking, local_root}
+use Rattle.hir_env.specs.declared.ctx.LowerCtx.{LowerCtx}
+use Rattle.hir_env.specs.ResolvedTree as tree
+use Rattle.hir_env.specs.ResolvedTree.{OptionPath, OptionType, Path, Segment, SegmentArgs, Type_}
+use Rattle.hir_env.specs.LocalPaths.{at_local_root, behind_root, is_bare, or_broken, local_root}
 use Rattle.hir_env.specs.PathNames.{behind_trait, mod_path_of, nothing_read, path_read, read_piece}
 use Rattle.hir_env.specs.Paths.{alias_at, called_path, context_at, kinded_segment, crate_root_at, inside_projection, qualified_segment}
 use Rattle.hir_env.specs.Paths.{with_alias}
-use Rattle.hir_env.specs.Spot.{Spot}
-use Rattle.hir_env.specs.Whole.{answered_type, arg_list_part, first_part, into, parens_part, path_level, path_part, path_type_level}
-use Rattle.hir_env.specs.Whole.{path_type_part, reader, rest_part, segment_level, type_part}
+use Rattle.hir_env.specs.ResolveCtx.{ResolveCtx}
+use Rattle.hir_env.specs.Whole.{resolved_type, resolved_use_tree, arg_list_part, first_part, into, parens_part, path_level, path_type_level}
+use Rattle.hir_env.specs.Whole.{path_type_part, reader, rest_part, segment_level, type_part, use_tree_part}
 use Rattle.hir_env.proofs.PathLevels.{path_type_is_level, segment_is_level}
 use Rattle.hir_env.specs.TypeLayers.{PathTypeReading}
-use Rattle.hir_lower_form.specs.Builder.{Builder}
-use Rattle.hir_lower_form.specs.Lowering.{Checked, Lowering, Lowers, go_on, pure}
-use Rattle.hir_lower_form.specs.Lower.{lower_path, read_option, read_path, read_segment}
-use Rattle.hir_lower_form.specs.Methods.{HasReading, LowersPath, LowersType, ReadsPath, ReadsSegment, at_place}
-use Rattle.hir_lower_form.specs.Paths.{proceed, whole, with_trait}
-use Rattle.hir_lower_form.specs.Walks.{at_first, missing_name, named, names_in}
-use Rattle.hir_lower_form.specs.declared.walk.PathWalk.{PathWalk}
-use Rattle.hir_lower_form.specs.declared.walk.Reading.{Reading}
-use Rattle.hir_lower_form.specs.declared.walk.Reading.TheVariants.{Refused, Ended, Open}
-use Rattle.hir_lower_form.proofs.PathNames.{lowered_names}
-use Rattle.hir_lower_path.specs.Rooted.{at_root, bare_segment, bare_trait, if_read, is_qualified, rooted}
+use Rattle.hir_lower_builder.specs.Builder.{Builder}
+use Rattle.hir_lower_builder.specs.Lowering.{Checked, Lowering, Lowers, go_on, pure}
+use Rattle.hir_lower_builder.specs.Lower.{lower_path, read_option, read_path, read_segment}
+use Rattle.hir_lower_builder.specs.Methods.{HasReading, LowersPath, LowersType, ReadsPath, ReadsSegment, at_place}
+use Rattle.hir_lower_builder.specs.Paths.{proceed, whole, with_trait}
+use Rattle.hir_lower_builder.specs.Walks.{at_first, missing_name, named, names_in}
+use Rattle.hir_lower_builder.specs.declared.walk.PathWalk.{PathWalk}
+use Rattle.hir_lower_builder.specs.declared.walk.Reading.{Reading}
+use Rattle.hir_lower_builder.specs.declared.walk.Reading.TheVariants.{Refused, Ended, Open}
+use Rattle.hir_lower_builder.proofs.PathNames.{lowered_names}
+use Rattle.hir_lower_path.specs.Rooted.{at_root, bare_segment, bare_trait, if_read, is_qualified, read_at_root}
 use Rattle.hir_lower_path.proofs.Ends.{open_stays}
 
 abbrev holds : Bool → Type 0
@@ -63,7 +63,7 @@ grown : (old mid new : Builder) → Grows old.stored mid.stored → Grows mid.st
 grown old mid new a b = grind (arith)
 
 pub rooted_lowers : (root : Option CrateId) (bare : Bool) (p : Lowering Reading) (old : Builder) (r : Checked Reading) (new : Builder)
-    → Lowers HasReading p old r new → Lowers HasReading (rooted root bare p) old (if_read root bare r) new
+    → Lowers HasReading p old r new → Lowers HasReading (read_at_root root bare p) old (if_read root bare r) new
 rooted_lowers root bare p old (Ok r) new h =
     (ap (λ o. go_on o.0 o.1 (λ x. pure (at_root root bare x))) h.0, h.1, root_has new.stored root bare r h.2)
 rooted_lowers root bare p old (Err e) new h = λ n. (ap (λ o. go_on o.0 o.1 (λ x. pure (at_root root bare x))) (h n).0, (h n).1)
@@ -87,12 +87,12 @@ unfolding whole
 plain_reads leading first w b = let o = own leading first w b in sym (open_stays o.0 o.1)
 
 pub absent_read : (leading : Bool) (w v : PathWalk) (b : Builder) (r : Reading) → leading ≡ true → v ≡ at_first true w
-    → r ≡ named missing_name None v → read_path (lacking leading (alone leading tree.absent_segment)) w b ≡ (Ok r, b)
+    → r ≡ named missing_name None v → read_path (or_broken leading (alone leading tree.absent_segment)) w b ≡ (Ok r, b)
 absent_read true w v b r l f e = plain_reads true tree.absent_segment w b ∙ (λ j. (Ok (sym (e ∙ ap (named missing_name None) f) j), b))
 absent_read false w v b r l f e = absurd (clash (sym l))
 
 pub refused_read : (leading : Bool) (w : PathWalk) (b : Builder) → leading ≡ false
-    → read_path (lacking leading (alone leading tree.absent_segment)) w b ≡ (Ok Refused, b)
+    → read_path (or_broken leading (alone leading tree.absent_segment)) w b ≡ (Ok Refused, b)
 refused_read true w b l = absurd (clash l)
 refused_read false w b l = plain_reads false tree.broken_segment w b
 
@@ -105,7 +105,7 @@ root_follows root (Ok (Open w)) b = refl
 root_follows root (Err e) b = refl
 
 rooted_reads : (root : Option CrateId) (leading : Bool) (first : Segment) (w : PathWalk) (b : Builder)
-    → read_path (behind_root root (alone leading first)) w b ≡ rooted root true (own leading first w) b
+    → read_path (behind_root root (alone leading first)) w b ≡ read_at_root root true (own leading first w) b
 unfolding whole
 rooted_reads root leading first w b = let o = own leading first w b in root_follows root o.0 o.1
 
@@ -114,20 +114,20 @@ as_is root (Ok r) b = refl
 as_is root (Err e) b = refl
 
 unrooted_reads : (root : Option CrateId) (leading : Bool) (first : Segment) (w : PathWalk) (b : Builder)
-    → read_path (alone leading first) w b ≡ rooted root false (own leading first w) b
+    → read_path (alone leading first) w b ≡ read_at_root root false (own leading first w) b
 unrooted_reads root leading first w b =
     let o = own leading first w b in plain_reads leading first w b ∙ as_is root o.0 o.1
 
 bare_reads : (bare : Bool) (root : Option CrateId) (leading : Bool) (first : Segment) (w : PathWalk) (b : Builder)
     → read_path (if bare then behind_root root (alone leading first) else alone leading first) w b
-    ≡ rooted root bare (own leading first w) b
+    ≡ read_at_root root bare (own leading first w) b
 bare_reads true root leading first w b = rooted_reads root leading first w b
 bare_reads false root leading first w b = unrooted_reads root leading first w b
 
 -- where both say the same of the segment
 says_reads : (bare : Bool) (root : Option CrateId) (leading : Bool) (first : Segment) (w : PathWalk) (b : Builder)
     → is_bare (mod_path_of (tree.some_path (alone leading first))) ≡ bare
-    → read_path (at_local_root (Some root) (alone leading first)) w b ≡ rooted root bare (own leading first w) b
+    → read_path (at_local_root (Some root) (alone leading first)) w b ≡ read_at_root root bare (own leading first w) b
 says_reads bare root leading first w b h =
     ap (λ c. read_path (if c then behind_root root (alone leading first) else alone leading first) w b) h
     ∙ bare_reads bare root leading first w b
@@ -135,14 +135,14 @@ says_reads bare root leading first w b h =
 -- and where it refuses or ends the path in any case
 refused_reads : (bare : Bool) (root : Option CrateId) (leading : Bool) (w : PathWalk) (b : Builder)
     → read_path (at_local_root (Some root) (alone leading tree.broken_segment)) w b
-    ≡ rooted root bare (own leading tree.broken_segment w) b
+    ≡ read_at_root root bare (own leading tree.broken_segment w) b
 unfolding whole
 refused_reads true root leading w b = refl
 refused_reads false root leading w b = refl
 
 dollar_reads : (bare : Bool) (root of : Option CrateId) (leading : Bool) (w : PathWalk) (b : Builder)
     → read_path (at_local_root (Some root) (alone leading (tree.dollar_crate_segment of))) w b
-    ≡ rooted root bare (own leading (tree.dollar_crate_segment of) w) b
+    ≡ read_at_root root bare (own leading (tree.dollar_crate_segment of) w) b
 unfolding whole
 dollar_reads true root None leading w b = refl
 dollar_reads true root (Some of) leading w b = refl
@@ -182,9 +182,9 @@ trait_is leading (Some m) = by m.kind m.segments
     by k (n ∷ []) = refl
     by k (n ∷ m ∷ ns) = refl
 
-module _ (env : Answers) (p : Place) (leading : Bool) (root : Option CrateId) (w : PathWalk) (b : Builder) where
+module _ (env : Answers) (p : LowerCtx) (leading : Bool) (root : Option CrateId) (w : PathWalk) (b : Builder) where
   abbrev Reads : Segment → Bool → Type 0
-  Reads first bare = read_path (at_local_root (Some root) (alone leading first)) w b ≡ rooted root bare (own leading first w) b
+  Reads first bare = read_path (at_local_root (Some root) (alone leading first)) w b ≡ read_at_root root bare (own leading first w) b
 
   name_reads : (n : AstName) (a : SegmentArgs) (c : Bool)
       → Reads (if c then tree.dollar_crate_segment (crate_root_at env p n.id) else tree.name_segment (name.Text n.t) tt a) (not leading)
@@ -213,30 +213,30 @@ module _ (env : Answers) (p : Place) (leading : Bool) (root : Option CrateId) (w
 
 -- the level of a path, whether it is an alias or not
 
-abbrev pub unaliased : Spot → AstPath → Path
+abbrev pub unaliased : ResolveCtx → AstPath → Path
 unaliased at x =
     let o = out-Path x in
     called_path at.answers (reader at.answers (into at)) o.in_macro o.leading o.segs o.use_ at.place
-    (tree.path None o.leading (first_part at o.segs) (rest_part at o.segs) (path_part at o.use_))
+    (tree.path None o.leading (first_part at o.segs) (rest_part at o.segs) (use_tree_part at o.use_))
 
 reads_aliased : (alias : Option (List Bool)) (y : Path) (w : PathWalk) (old : Builder) (r : Checked Reading) (new : Builder)
     → ReadsPath y w old r new → ReadsPath (with_alias alias y) w old r new
 reads_aliased alias (tree.path _ leading first rest use_) w old r new h = h
 
-pub reads_level : (at : Spot) (x : AstPath) (w : PathWalk) (old : Builder) (r : Checked Reading) (new : Builder)
+pub reads_level : (at : ResolveCtx) (x : AstPath) (w : PathWalk) (old : Builder) (r : Checked Reading) (new : Builder)
     → ReadsPath (unaliased at x) w old r new → ReadsPath (path_level at x) w old r new
 reads_level at x w old r new h =
     reads_aliased (alias_at at.answers at.place (unaliased at x)) (unaliased at x) w old r new h
 
 -- in a call
 
-module _ (at : Spot) (x : AstPath) (called : (out-Path x).in_macro ≡ true) where
+module _ (at : ResolveCtx) (x : AstPath) (called : (out-Path x).in_macro ≡ true) where
   abbrev plain_level : Path
-  plain_level = let o = out-Path x in tree.path None o.leading (first_part at o.segs) (rest_part at o.segs) (path_part at o.use_)
+  plain_level = let o = out-Path x in tree.path None o.leading (first_part at o.segs) (rest_part at o.segs) (use_tree_part at o.use_)
 
   abbrev level_with : Bool → Bool → List (Option AstSegment) → Option AstPath → Path
   level_with b leading ss u = called_path at.answers (reader at.answers (into at)) b leading ss u at.place
-      (tree.path None leading (first_part at ss) (rest_part at ss) (path_part at u))
+      (tree.path None leading (first_part at ss) (rest_part at ss) (use_tree_part at u))
 
   pub one_level : (s : AstSegment) → (out-Path x).use_ ≡ None → (out-Path x).segs ≡ Some s ∷ [] → unaliased at x
       ≡ at_local_root (local_root at.answers (context_at at.answers at.place (out-PathSegment s).id))
@@ -244,14 +244,6 @@ module _ (at : Spot) (x : AstPath) (called : (out-Path x).in_macro ≡ true) whe
   one_level s u e = (λ j. level_with (called j) (out-Path x).leading (e j) (u j))
       ∙ ap (λ y. at_local_root (local_root at.answers (context_at at.answers at.place (out-PathSegment s).id))
       (alone (out-Path x).leading y)) (segment_is_level at s)
-
-  pub none_level : (out-Path x).use_ ≡ None → (out-Path x).segs ≡ [] → unaliased at x
-      ≡ lacking (out-Path x).leading (alone (out-Path x).leading tree.absent_segment)
-  none_level u e = λ j. level_with (called j) (out-Path x).leading (e j) (u j)
-
-  pub absent_level : (out-Path x).use_ ≡ None → (out-Path x).segs ≡ None ∷ [] → unaliased at x
-      ≡ lacking (out-Path x).leading (alone (out-Path x).leading tree.absent_segment)
-  absent_level u e = λ j. level_with (called j) (out-Path x).leading (e j) (u j)
 
   pub more_level : 2 ≤ length (out-Path x).segs → unaliased at x ≡ plain_level
   more_level h = by (out-Path x).segs h
@@ -277,9 +269,9 @@ module _ (at : Spot) (x : AstPath) (called : (out-Path x).in_macro ≡ true) whe
           some_more true = refl
           some_more false = refl
 
-module _ (at : Spot) (x : AstPath) where
+module _ (at : ResolveCtx) (x : AstPath) where
   abbrev elsewhere : Path
-  elsewhere = let o = out-Path x in tree.path None o.leading (first_part at o.segs) (rest_part at o.segs) (path_part at o.use_)
+  elsewhere = let o = out-Path x in tree.path None o.leading (first_part at o.segs) (rest_part at o.segs) (use_tree_part at o.use_)
 
   pub uncalled_level : (out-Path x).in_macro ≡ false → unaliased at x ≡ elsewhere
   uncalled_level h =
@@ -309,28 +301,39 @@ same_lowers p q old (Ok r) new e h = (e ∙ h.0, h.1, h.2)
 same_lowers p q old (Err f) new e h = λ n. (e ∙ (h n).0, (h n).1)
 
 -- a path around which no use tree stands
-pub alone_lowers : (at : Spot) (u : Option AstPath) (steps : Lowering Reading) (old : Builder) (r : Checked Reading) (new : Builder)
-    → u ≡ None → Lowers HasReading steps old r new → Lowers HasReading (whole steps (read_option (path_part at u))) old r new
+pub alone_lowers : (at : ResolveCtx) (u : Option AstPath) (steps : Lowering Reading) (old : Builder) (r : Checked Reading) (new : Builder)
+    → u ≡ None → Lowers HasReading steps old r new → Lowers HasReading (whole steps (read_option (use_tree_part at u))) old r new
 unfolding whole
 alone_lowers at u steps old r new none h =
-    subst (λ o. Lowers HasReading (whole steps (read_option (path_part at o))) old r new) (sym none)
+    subst (λ o. Lowers HasReading (whole steps (read_option (use_tree_part at o))) old r new) (sym none)
     (same_lowers (whole steps (read_option tree.no_path)) steps old r new (let o = steps old in sym (open_stays o.0 o.1)) h)
+
+-- the use tree around a path, which is read as one
+pub outer_lowers : (at : ResolveCtx) (place : LowerCtx) (u : Option AstPath) (x y : AstPath) (w : PathWalk) (old : Builder)
+    (r : Checked Reading)
+    (new : Builder) → u ≡ Some x → y ≡ x → place ≡ at.place → ReadsPath (resolved_use_tree (at_place at place) y) w old r new
+    → Lowers HasReading (read_option (use_tree_part at u) w) old r new
+outer_lowers at place u x y w old r new is node here h =
+    subst (λ o. Lowers HasReading (read_option (use_tree_part at o) w) old r new) (sym is)
+    (subst (λ n. ReadsPath (resolved_use_tree at n) w old r new) node
+    (subst (λ p. ReadsPath (resolved_use_tree (at_place at p) y) w old r new) here h))
 
 -- a qualified type whose type is read
 trait_lowers : (t : Type_) (read : PathTypeReading) (w : PathWalk) (root : Option CrateId) (bare : Bool) (old mid new : Builder)
     (id : TypeRefId) (r : Checked Reading) → LowersType None t old (Ok id) mid
-    → Lowers HasReading (rooted root bare (with_trait (lower_path read.path) id read.pointer w)) mid r new
-    → Lowers HasReading (rooted root bare (read_segment true (tree.trait_segment t read.pointer read.path) w)) old r new
+    → Lowers HasReading (read_at_root root bare (with_trait (lower_path read.path) id read.pointer w)) mid r new
+    → Lowers HasReading (read_at_root root bare (read_segment true (tree.trait_segment t read.pointer read.path) w)) old r new
 trait_lowers t read w root bare old mid new id r h k = by r k
   where
     steps : TypeRefId → Lowering Reading
     steps i = with_trait (lower_path read.path) i read.pointer w
 
-    is : rooted root bare (read_segment true (tree.trait_segment t read.pointer read.path) w) old ≡ rooted root bare (steps id) mid
+    is : read_at_root root bare (read_segment true (tree.trait_segment t read.pointer read.path) w) old
+        ≡ read_at_root root bare (steps id) mid
     is = ap (λ o. go_on (go_on o.0 o.1 steps).0 (go_on o.0 o.1 steps).1 (λ x. pure (at_root root bare x))) h.0
 
-    by : (r : Checked Reading) → Lowers HasReading (rooted root bare (steps id)) mid r new
-        → Lowers HasReading (rooted root bare (read_segment true (tree.trait_segment t read.pointer read.path) w)) old r new
+    by : (r : Checked Reading) → Lowers HasReading (read_at_root root bare (steps id)) mid r new
+        → Lowers HasReading (read_at_root root bare (read_segment true (tree.trait_segment t read.pointer read.path) w)) old r new
     by (Ok a) k = (is ∙ k.0, grown old mid new h.1 k.1, k.2)
     by (Err e) k = λ n. (is ∙ (k n).0, (k n).1)
 
@@ -342,9 +345,9 @@ plain_lowers t read w old mid new id (Ok a) h k =
 plain_lowers t read w old mid new id (Err e) h k =
     λ n. (ap (λ o. go_on o.0 o.1 (λ i. with_trait (lower_path read.path) i read.pointer w)) h.0 ∙ (k n).0, (k n).1)
 
-pub trait_reads : (at : Spot) (place : Place) (first : Bool) (ty : Option AstType_) (tr : Option AstPathType) (y z : AstType_)
+pub trait_reads : (at : ResolveCtx) (place : LowerCtx) (first : Bool) (ty : Option AstType_) (tr : Option AstPathType) (y z : AstType_)
     (x : AstPathType) (w : PathWalk) (old mid new : Builder) (id : TypeRefId) (r : Checked Reading) → first ≡ true → ty ≡ Some y
-    → tr ≡ Some x → z ≡ y → place ≡ at.place → LowersType None (answered_type (at_place at place) z) old (Ok id) mid
+    → tr ≡ Some x → z ≡ y → place ≡ at.place → LowersType None (resolved_type (at_place at place) z) old (Ok id) mid
     → Lowers HasReading (with_trait (lower_path (path_type_level at x).path) id (path_type_level at x).pointer w) mid r new
     → ReadsSegment first (qualified_segment (type_part at ty) (path_type_part at tr)) w old r new
 trait_reads at place first ty tr y z x w old mid new id r f t e same here h k =
@@ -352,51 +355,40 @@ trait_reads at place first ty tr y z x w old mid new id r f t e same here h k =
     (subst (λ o. ReadsSegment true (qualified_segment (type_part at o) (path_type_part at tr)) w old r new) (sym t)
     (subst (λ o. ReadsSegment true (qualified_segment (type_part at (Some y)) o) w old r new)
     (sym (ap (path_type_part at) e ∙ ap Some (path_type_is_level at x)))
-    (plain_lowers (answered_type at y) (path_type_level at x) w old mid new id r
-    (subst (λ v. LowersType None (answered_type at v) old (Ok id) mid) same
-    (subst (λ p. LowersType None (answered_type (at_place at p) z) old (Ok id) mid) here h)) k)))
+    (plain_lowers (resolved_type at y) (path_type_level at x) w old mid new id r
+    (subst (λ v. LowersType None (resolved_type at v) old (Ok id) mid) same
+    (subst (λ p. LowersType None (resolved_type (at_place at p) z) old (Ok id) mid) here h)) k)))
 
-pub qualified_lowers : (at : Spot) (place : Place) (ty : Option AstType_) (y z : AstType_) (read : PathTypeReading) (w : PathWalk)
+pub qualified_lowers : (at : ResolveCtx) (place : LowerCtx) (ty : Option AstType_) (y z : AstType_) (read : PathTypeReading) (w : PathWalk)
     (root : Option CrateId) (bare : Bool) (old mid new : Builder) (q : Checked TypeRefId) (id : TypeRefId) (r : Checked Reading)
-    → ty ≡ Some y → z ≡ y → place ≡ at.place → q ≡ Ok id → LowersType None (answered_type (at_place at place) z) old q mid
-    → Lowers HasReading (rooted root bare (with_trait (lower_path read.path) id read.pointer w)) mid r new
-    → Lowers HasReading (rooted root bare (read_segment true (qualified_segment (type_part at ty) (Some read)) w)) old r new
+    → ty ≡ Some y → z ≡ y → place ≡ at.place → q ≡ Ok id → LowersType None (resolved_type (at_place at place) z) old q mid
+    → Lowers HasReading (read_at_root root bare (with_trait (lower_path read.path) id read.pointer w)) mid r new
+    → Lowers HasReading (read_at_root root bare (read_segment true (qualified_segment (type_part at ty) (Some read)) w)) old r new
 qualified_lowers at place ty y z read w root bare old mid new q id r is same here ok h k =
-    subst (λ o. Lowers HasReading (rooted root bare (read_segment true (qualified_segment (type_part at o) (Some read)) w)) old r new)
+    subst (λ o. Lowers HasReading (read_at_root root bare (read_segment true (qualified_segment (type_part at o) (Some read)) w)) old r new)
     (sym is)
-    (trait_lowers (answered_type at y) read w root bare old mid new id r
-    (subst (λ v. LowersType None (answered_type at v) old (Ok id) mid) same
-    (subst (λ p. LowersType None (answered_type (at_place at p) z) old (Ok id) mid) here
-    (subst (λ c. LowersType None (answered_type (at_place at place) z) old c mid) ok h))) k)
+    (trait_lowers (resolved_type at y) read w root bare old mid new id r
+    (subst (λ v. LowersType None (resolved_type at v) old (Ok id) mid) same
+    (subst (λ p. LowersType None (resolved_type (at_place at p) z) old (Ok id) mid) here
+    (subst (λ c. LowersType None (resolved_type (at_place at place) z) old c mid) ok h))) k)
 
 untyped_lowers : (t : Type_) (read : PathTypeReading) (w : PathWalk) (root : Option CrateId) (bare : Bool) (old new : Builder)
-    (e : StoreFault)
+    (e : StoreError)
     → LowersType None t old (Err e) new
-    → Lowers HasReading (rooted root bare (read_segment true (tree.trait_segment t read.pointer read.path) w)) old (Err e) new
+    → Lowers HasReading (read_at_root root bare (read_segment true (tree.trait_segment t read.pointer read.path) w)) old (Err e) new
 untyped_lowers t read w root bare old new e h = λ n. (
   ap (λ o. let c = go_on o.0 o.1 (λ i. with_trait (lower_path read.path) i read.pointer w) in
       go_on c.0 c.1 (λ x. pure (at_root root bare x))) (h n).0,
   (h n).1,
 )
 
-pub unqualified_lowers : (at : Spot) (place : Place) (ty : Option AstType_) (y z : AstType_) (read : PathTypeReading) (w : PathWalk)
-    (root : Option CrateId) (bare : Bool) (old new : Builder) (q : Checked TypeRefId) (e : StoreFault)
-    → ty ≡ Some y → z ≡ y → place ≡ at.place → q ≡ Err e → LowersType None (answered_type (at_place at place) z) old q new
-    → Lowers HasReading (rooted root bare (read_segment true (qualified_segment (type_part at ty) (Some read)) w)) old (Err e) new
-unqualified_lowers at place ty y z read w root bare old new q e is same here fails h =
-    subst (λ o. Lowers HasReading (rooted root bare (read_segment true (qualified_segment (type_part at o) (Some read)) w)) old (Err e) new)
-    (sym is) (untyped_lowers (answered_type at y) read w root bare old new e
-    (subst (λ v. LowersType None (answered_type at v) old (Err e) new) same
-    (subst (λ p. LowersType None (answered_type (at_place at p) z) old (Err e) new) here
-    (subst (λ c. LowersType None (answered_type (at_place at place) z) old c new) fails h))))
-
-module _ (at : Spot) (node : AstSegment) (leading : Bool) (w v : PathWalk) (first : v ≡ at_first leading w) (root : Option CrateId)
+module _ (at : ResolveCtx) (node : AstSegment) (leading : Bool) (w v : PathWalk) (first : v ≡ at_first leading w) (root : Option CrateId)
     (old new : Builder) where
   abbrev own_steps : Lowering Reading
   own_steps = read_segment true (segment_level at node) (at_first leading w)
 
   -- where the type and the trait are read
-  abbrev inner : Spot
+  abbrev inner : ResolveCtx
   inner = at_place at (inside_projection at.place)
 
   abbrev kind_of : Option SegmentKind
@@ -405,8 +397,8 @@ module _ (at : Spot) (node : AstSegment) (leading : Bool) (w v : PathWalk) (firs
   kinded_lowers : (k : Option SegmentKind) (n : Option AstName) (a : SegmentArgs) (ty : OptionType) (t : PathTypeReading)
       (r : Checked Reading)
       → is_qualified k ≡ true
-      → Lowers HasReading (rooted root (is_bare (mod_path_of t.path)) (read_segment true (qualified_segment ty (Some t)) v)) old r new
-      → Lowers HasReading (rooted root (bare_segment leading k (Some t))
+      → Lowers HasReading (read_at_root root (is_bare (mod_path_of t.path)) (read_segment true (qualified_segment ty (Some t)) v)) old r new
+      → Lowers HasReading (read_at_root root (bare_segment leading k (Some t))
       (read_segment true (kinded_segment at.answers at.place k n a ty (Some t)) v)) old r new
   kinded_lowers None n a ty t r q h = absurd (clash (sym q))
   kinded_lowers (Some kind.Name) n a ty t r q h = absurd (clash (sym q))
@@ -417,28 +409,29 @@ module _ (at : Spot) (node : AstSegment) (leading : Bool) (w v : PathWalk) (firs
   kinded_lowers (Some kind.Qualified) n a ty t r q h = h
 
   pub trait_segment_lowers : (y : AstPathType) (r : Checked Reading) → (out-PathSegment node).trait_ ≡ Some y → is_qualified kind_of ≡ true
-      → Lowers HasReading (rooted root (is_bare (mod_path_of (path_type_level inner y).path))
+      → Lowers HasReading (read_at_root root (is_bare (mod_path_of (path_type_level inner y).path))
       (read_segment true (qualified_segment (type_part inner (out-PathSegment node).ty) (Some (path_type_level inner y))) v)) old r new
-      → Lowers HasReading (rooted root (bare_segment leading kind_of (path_type_part inner (out-PathSegment node).trait_)) own_steps) old r
+      → Lowers HasReading (read_at_root root (bare_segment leading kind_of (path_type_part inner (out-PathSegment node).trait_))
+      own_steps) old r
       new
   trait_segment_lowers y r e q h =
       let o = out-PathSegment node in
       let part : path_type_part inner o.trait_ ≡ Some (path_type_level inner y) =
       ap (path_type_part inner) e ∙ ap Some (path_type_is_level inner y) in
       let a = tree.segment_args (arg_list_part at o.generics) (parens_part at o.parens o.ret) o.rtn in
-      subst (λ t. Lowers HasReading (rooted root (bare_segment leading o.seg t)
+      subst (λ t. Lowers HasReading (read_at_root root (bare_segment leading o.seg t)
       (read_segment true (kinded_segment at.answers at.place o.seg o.name a (type_part inner o.ty) t) (at_first leading w))) old r new)
       (sym part)
-      (subst (λ u. Lowers HasReading (rooted root (bare_segment leading o.seg (Some (path_type_level inner y)))
+      (subst (λ u. Lowers HasReading (read_at_root root (bare_segment leading o.seg (Some (path_type_level inner y)))
       (read_segment true (kinded_segment at.answers at.place o.seg o.name a (type_part inner o.ty) (Some (path_type_level inner y))) u))
       old r new) first
       (kinded_lowers o.seg o.name a (type_part inner o.ty) (path_type_level inner y) r q h))
 
   read_lowers : (bare own : Bool) (c r : Checked Reading) → own ≡ bare → ReadsSegment true (segment_level at node) v old c new
-      → r ≡ if_read root bare c → Lowers HasReading (rooted root own own_steps) old r new
+      → r ≡ if_read root bare c → Lowers HasReading (read_at_root root own own_steps) old r new
   read_lowers bare own c r e h is =
-      subst (λ b. Lowers HasReading (rooted root b own_steps) old r new) (sym e)
-      (subst (λ x. Lowers HasReading (rooted root bare own_steps) old x new) (sym is)
+      subst (λ b. Lowers HasReading (read_at_root root b own_steps) old r new) (sym e)
+      (subst (λ x. Lowers HasReading (read_at_root root bare own_steps) old x new) (sym is)
       (rooted_lowers root bare own_steps old c new (subst (λ u. ReadsSegment true (segment_level at node) u old c new) first h)))
 
   no_trait_bare : (k : Option SegmentKind) (t : Option PathTypeReading) → is_qualified k ≡ false → bare_segment leading k t
@@ -453,7 +446,8 @@ module _ (at : Spot) (node : AstSegment) (leading : Bool) (w v : PathWalk) (firs
 
   pub other_segment_lowers : (bare : Bool) (c r : Checked Reading) → is_qualified kind_of ≡ false → bare ≡ bare_segment leading kind_of None
       → ReadsSegment true (segment_level at node) v old c new → r ≡ if_read root bare c
-      → Lowers HasReading (rooted root (bare_segment leading kind_of (path_type_part inner (out-PathSegment node).trait_)) own_steps) old r
+      → Lowers HasReading (read_at_root root (bare_segment leading kind_of (path_type_part inner (out-PathSegment node).trait_))
+      own_steps) old r
       new
   other_segment_lowers bare c r q b h is =
       read_lowers bare (bare_segment leading kind_of (path_type_part inner (out-PathSegment node).trait_)) c r
@@ -461,14 +455,15 @@ module _ (at : Spot) (node : AstSegment) (leading : Bool) (w v : PathWalk) (firs
 
   pub traitless_segment_lowers : (bare : Bool) (c r : Checked Reading) → (out-PathSegment node).trait_ ≡ None
       → bare ≡ bare_segment leading kind_of None → ReadsSegment true (segment_level at node) v old c new → r ≡ if_read root bare c
-      → Lowers HasReading (rooted root (bare_segment leading kind_of (path_type_part inner (out-PathSegment node).trait_)) own_steps) old r
+      → Lowers HasReading (read_at_root root (bare_segment leading kind_of (path_type_part inner (out-PathSegment node).trait_))
+      own_steps) old r
       new
   traitless_segment_lowers bare c r e b h is =
       read_lowers bare (bare_segment leading kind_of (path_type_part inner (out-PathSegment node).trait_)) c r
       (ap (λ t. bare_segment leading kind_of (path_type_part inner t)) e ∙ sym b) h is
 
   -- where its macro isn't local
-  pub far_lowers : (place : Place) (q : Option (Option CrateId)) (r : Checked Reading) → place ≡ at.place
+  pub far_lowers : (place : LowerCtx) (q : Option (Option CrateId)) (r : Checked Reading) → place ≡ at.place
       → q ≡ local_root at.answers (at.answers.context (record { file_id = place.file_id; value = (out-PathSegment node).id })) → q ≡ None
       → ReadsSegment true (segment_level at node) v old r new
       → ReadsPath (at_local_root (local_root at.answers (context_at at.answers at.place (out-PathSegment node).id))

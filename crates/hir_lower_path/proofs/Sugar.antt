@@ -10,9 +10,9 @@ use Rattle.hir_store.specs.declared.path.GenericArg.TheVariants as arg
 use Rattle.hir_store.specs.declared.path.GenericArgsParentheses.TheVariants.{ParenSugar}
 use Rattle.hir_store.specs.declared.type_ref.TypeRef.TheVariants as ty
 use Rattle.hir_store.proofs.Past.{binding_roll, generic_roll}
-use Rattle.hir_lower_form.specs.Builder.{Builder}
-use Rattle.hir_lower_form.specs.Lowering.{Lowering, Lowers, alloc_type}
-use Rattle.hir_lower_form.specs.Paths.{output_name, parens_form, sugared_args}
+use Rattle.hir_lower_builder.specs.Builder.{Builder}
+use Rattle.hir_lower_builder.specs.Lowering.{Lowering, Lowers, alloc_type}
+use Rattle.hir_lower_builder.specs.Paths.{output_name, parens_form, sugared_args}
 
 pub sugared_has : (s : Stored) (t o : TypeRefId) → HasType s t → HasType s o → HasArgsOption s (Some (sugared_args t o))
 sugared_has s t o h k =

@@ -6,18 +6,18 @@ use Rattle.hir_store.specs.declared.ids.CrateId.{CrateId}
 use Rattle.hir_env.specs.LocalPaths.{is_bare}
 use Rattle.hir_env.specs.PathNames.{mod_path_of}
 use Rattle.hir_env.specs.TypeLayers.{PathTypeReading}
-use Rattle.hir_lower_form.specs.Lowering.{Checked, Lowering, ◌>>=◌, pure}
-use Rattle.hir_lower_form.specs.Walks.{crate_kind, ended}
-use Rattle.hir_lower_form.specs.declared.walk.Reading.{Reading}
-use Rattle.hir_lower_form.specs.declared.walk.Reading.TheVariants.{Open}
+use Rattle.hir_lower_builder.specs.Lowering.{Checked, Lowering, ◌>>=◌, pure}
+use Rattle.hir_lower_builder.specs.Walks.{crate_kind, ended}
+use Rattle.hir_lower_builder.specs.declared.walk.Reading.{Reading}
+use Rattle.hir_lower_builder.specs.declared.walk.Reading.TheVariants.{Open}
 
 -- it begins there where it is one name that begins nowhere
 abbrev pub at_root : Option CrateId → Bool → Reading → Reading
 at_root root true (Open w) = ended (crate_kind root) w
 at_root root bare r = r
 
-abbrev pub rooted : Option CrateId → Bool → Lowering Reading → Lowering Reading
-rooted root bare p = do
+abbrev pub read_at_root : Option CrateId → Bool → Lowering Reading → Lowering Reading
+read_at_root root bare p = do
   r ← p
   pure (at_root root bare r)
 

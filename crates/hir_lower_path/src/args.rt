@@ -4,18 +4,18 @@ ghost use Rattle.std.specs.Prelude.{◌≡◌, IfOk, None};
 ghost use Rattle.hir_syntax.specs.declared.ast.PathSegment.{out-PathSegment};
 ghost use Rattle.hir_store.specs.Range.{HasArgsOption, HasType};
 ghost use Rattle.hir_env.specs.Whole.{parens_part, ret_part, segment_args_level, type_args_part};
-ghost use Rattle.hir_lower_form.specs.Lowering.{Lowers};
-ghost use Rattle.hir_lower_form.specs.Lower as spec;
-ghost use Rattle.hir_lower_form.specs.Paths as forms;
-ghost use Rattle.hir_lower_form.specs.Methods.{LowersParts};
-ghost use Rattle.hir_lower_form.specs.Nests.{Each, IfPresent, KidsParens, KidsRet, KidsSegmentArgs, KidsTypeArg};
+ghost use Rattle.hir_lower_builder.specs.Lowering.{Lowers};
+ghost use Rattle.hir_lower_builder.specs.Lower as spec;
+ghost use Rattle.hir_lower_builder.specs.Paths as forms;
+ghost use Rattle.hir_lower_builder.specs.Methods.{LowersParts};
+ghost use Rattle.hir_lower_builder.specs.Nests.{Each, IfPresent, KidsParens, KidsRet, KidsSegmentArgs, KidsTypeArg};
 ghost use Rattle.hir_lower_path.specs.Found.{found_or};
 
-use hir_lower_form::args::or_notation;
-use hir_lower_form::builder::BodyBuilder;
-use hir_lower_form::parts::{LowerPieces, Lowerer};
-use hir_lower_form::storing::Storing;
-use hir_store::fault::StoreFault;
+use hir_lower_builder::args::or_notation;
+use hir_lower_builder::builder::BodyBuilder;
+use hir_lower_builder::parts::{LowerExprs, Lowerer};
+use hir_lower_builder::store_sink::StoreSink;
+use hir_store::error::StoreError;
 use hir_store::ids::TypeRefId;
 use hir_store::lists::push_type;
 use hir_store::name::Name;
@@ -25,13 +25,13 @@ use hir_syntax::{Seq, Text, ast};
 use std::alloc::{AllocError, Global};
 
 /// The types in `(A, B)`.
-fn type_args<I: Storing, P: LowerPieces<I>>(
+fn type_args<I: StoreSink, P: LowerExprs<I>>(
     lowerer: &Lowerer<P>,
     state: &mut BodyBuilder<I>,
     mut left: &[ast::TypeArg],
-) -> Result<Seq<TypeRefId>, StoreFault>
-    requires { Each (KidsTypeArg (P.can lowerer.now.parts) (P.spot lowerer.now.parts).place) left.now }
-    ensures { LowersParts (type_args_part (P.spot lowerer.now.parts) left.entry.now) state.old result state.new }
+) -> Result<Seq<TypeRefId>, StoreError>
+    requires { Each (KidsTypeArg (P.can lowerer.now.parts) (P.rctx lowerer.now.parts).place) left.now }
+    ensures { LowersParts (type_args_part (P.rctx lowerer.now.parts) left.entry.now) state.old result state.new }
 {
     let mut done = Seq::new(lowerer.alloc);
     while let [one, rest @ ..] = left {
@@ -43,13 +43,13 @@ fn type_args<I: Storing, P: LowerPieces<I>>(
 }
 
 /// What `-> C` says: `()` where it is absent, and an error where it has no type.
-fn output<I: Storing, P: LowerPieces<I>>(
+fn output<I: StoreSink, P: LowerExprs<I>>(
     lowerer: &Lowerer<P>,
     state: &mut BodyBuilder<I>,
     ret: &Option<ast::RetType>,
-) -> Result<TypeRefId, StoreFault>
-    requires { IfPresent (KidsRet (P.can lowerer.now.parts) (P.spot lowerer.now.parts).place) ret.now }
-    ensures { Lowers HasType (spec.output_part (ret_part (P.spot lowerer.now.parts) ret.now)) state.old result state.new }
+) -> Result<TypeRefId, StoreError>
+    requires { IfPresent (KidsRet (P.can lowerer.now.parts) (P.rctx lowerer.now.parts).place) ret.now }
+    ensures { Lowers HasType (spec.output_part (ret_part (P.rctx lowerer.now.parts) ret.now)) state.old result state.new }
 {
     match ret {
         None => state.unit_type(lowerer.alloc),
@@ -75,16 +75,16 @@ fn sugared_args(
 }
 
 /// `(A) -> C`. Without `(A)` nothing is read.
-#[tactic(auto, using(crate::proofs::Sugar::sugared_has), unfolding(hir_lower_form::specs::Paths::parens_form))]
+#[tactic(auto, using(crate::proofs::Sugar::sugared_has), unfolding(hir_lower_builder::specs::Paths::parens_form))]
 #[inline(never)]
-fn parens<I: Storing, P: LowerPieces<I>>(
+fn parens<I: StoreSink, P: LowerExprs<I>>(
     lowerer: &Lowerer<P>,
     state: &mut BodyBuilder<I>,
     parens: &Option<ast::ParenArgs>,
     ret: &Option<ast::RetType>,
-) -> Result<Option<GenericArgs>, StoreFault>
-    requires { KidsParens (P.can lowerer.now.parts) (P.spot lowerer.now.parts).place parens.now ret.now }
-    ensures { let read = parens_part (P.spot lowerer.now.parts) parens.now ret.now in
+) -> Result<Option<GenericArgs>, StoreError>
+    requires { KidsParens (P.can lowerer.now.parts) (P.rctx lowerer.now.parts).place parens.now ret.now }
+    ensures { let read = parens_part (P.rctx lowerer.now.parts) parens.now ret.now in
         Lowers HasArgsOption (spec.parens_part read) state.old result state.new }
 {
     let Some(parens) = parens else {
@@ -97,15 +97,15 @@ fn parens<I: Storing, P: LowerPieces<I>>(
 }
 
 /// `(A) -> C`, or else `(..)`.
-fn parens_or_dots<I: Storing, P: LowerPieces<I>>(
+fn parens_or_dots<I: StoreSink, P: LowerExprs<I>>(
     lowerer: &Lowerer<P>,
     state: &mut BodyBuilder<I>,
     node: &ast::PathSegment,
-) -> Result<Option<GenericArgs>, StoreFault>
+) -> Result<Option<GenericArgs>, StoreError>
     requires { let level = out-PathSegment node.now in
-        KidsParens (P.can lowerer.now.parts) (P.spot lowerer.now.parts).place level.parens level.ret }
+        KidsParens (P.can lowerer.now.parts) (P.rctx lowerer.now.parts).place level.parens level.ret }
     ensures { let level = out-PathSegment node.now in
-        let parens = spec.parens_part (parens_part (P.spot lowerer.now.parts) level.parens level.ret) in
+        let parens = spec.parens_part (parens_part (P.rctx lowerer.now.parts) level.parens level.ret) in
         Lowers HasArgsOption (found_or None parens level.rtn) state.old result state.new }
 {
     match parens(lowerer, state, &node.parens, &node.ret) {
@@ -116,17 +116,17 @@ fn parens_or_dots<I: Storing, P: LowerPieces<I>>(
 
 /// These arguments, or else `(A) -> C`, or else `(..)`.
 #[inline(never)]
-fn found_or_parens<I: Storing, P: LowerPieces<I>>(
+fn found_or_parens<I: StoreSink, P: LowerExprs<I>>(
     lowerer: &Lowerer<P>,
     state: &mut BodyBuilder<I>,
     node: &ast::PathSegment,
     found: Option<GenericArgs>,
-) -> Result<Option<GenericArgs>, StoreFault>
+) -> Result<Option<GenericArgs>, StoreError>
     requires parts { let level = out-PathSegment node.now in
-        KidsParens (P.can lowerer.now.parts) (P.spot lowerer.now.parts).place level.parens level.ret }
+        KidsParens (P.can lowerer.now.parts) (P.rctx lowerer.now.parts).place level.parens level.ret }
     requires found { HasArgsOption state.old.stored found }
     ensures { let level = out-PathSegment node.now in
-        let parens = spec.parens_part (parens_part (P.spot lowerer.now.parts) level.parens level.ret) in
+        let parens = spec.parens_part (parens_part (P.rctx lowerer.now.parts) level.parens level.ret) in
         Lowers HasArgsOption (found_or found parens level.rtn) state.old result state.new }
 {
     match found {
@@ -136,14 +136,14 @@ fn found_or_parens<I: Storing, P: LowerPieces<I>>(
 }
 
 /// Of `<..>`, `(A) -> C` and `(..)` the first that yields any.
-#[tactic(auto, unfolding(hir_lower_form::specs::Paths::segment_args_form))]
-pub(crate) fn segment_args<I: Storing, P: LowerPieces<I>>(
+#[tactic(auto, unfolding(hir_lower_builder::specs::Paths::segment_args_form))]
+pub(crate) fn segment_args<I: StoreSink, P: LowerExprs<I>>(
     lowerer: &Lowerer<P>,
     state: &mut BodyBuilder<I>,
     node: &ast::PathSegment,
-) -> Result<Option<GenericArgs>, StoreFault>
-    requires { KidsSegmentArgs (P.can lowerer.now.parts) (P.spot lowerer.now.parts).place (out-PathSegment node.now) }
-    ensures { let level = segment_args_level (P.spot lowerer.now.parts) node.now in
+) -> Result<Option<GenericArgs>, StoreError>
+    requires { KidsSegmentArgs (P.can lowerer.now.parts) (P.rctx lowerer.now.parts).place (out-PathSegment node.now) }
+    ensures { let level = segment_args_level (P.rctx lowerer.now.parts) node.now in
         Lowers HasArgsOption (spec.lower_segment_args level) state.old result state.new }
 {
     let place = lowerer.parts.place();

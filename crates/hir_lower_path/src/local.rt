@@ -1,34 +1,34 @@
-//! A path of one segment that stands directly in a call of a macro, which may begin at the root of the macro's crate.
+//! A path of one segment that stands directly in a macro call, which may begin at the root of the macro's crate.
 
 ghost use Rattle.std.specs.Prelude.{◌≡◌, None, Some, true};
 ghost use Rattle.hir_syntax.specs.declared.ast.Path.{out-Path};
 ghost use Rattle.hir_syntax.specs.declared.ast.PathSegment.{out-PathSegment};
 ghost use Rattle.hir_store.specs.Range.{HasType};
-ghost use Rattle.hir_env.specs.Answered as tree;
+ghost use Rattle.hir_env.specs.ResolvedTree as tree;
 ghost use Rattle.hir_env.specs.LocalPaths as crate_local;
 ghost use Rattle.hir_env.specs.LocalPaths.{at_local_root, local_root};
 ghost use Rattle.hir_env.specs.PathNames.{mod_path_of};
 ghost use Rattle.hir_env.specs.Paths.{context_at, qualified_segment};
 ghost use Rattle.hir_env.specs.Paths as of;
 ghost use Rattle.hir_env.specs.Whole.{path_level, path_type_level, path_type_part, segment_level, type_part};
-ghost use Rattle.hir_lower_form.specs.Lowering.{Lowers};
-ghost use Rattle.hir_lower_form.specs.Lower as spec;
-ghost use Rattle.hir_lower_form.specs.Methods.{HasReading, HasWalk, ReadsPath, at_place};
-ghost use Rattle.hir_lower_form.specs.Nests.{KidsPath, KidsQualified, KidsSegment, KidsTrait};
-ghost use Rattle.hir_lower_form.specs.Paths as forms;
-ghost use Rattle.hir_lower_form.specs.Walks.{at_first, names_in};
-ghost use Rattle.hir_lower_path.specs.Rooted.{bare_segment, bare_trait, rooted};
+ghost use Rattle.hir_lower_builder.specs.Lowering.{Lowers};
+ghost use Rattle.hir_lower_builder.specs.Lower as spec;
+ghost use Rattle.hir_lower_builder.specs.Methods.{HasReading, HasWalk, ReadsPath, at_place};
+ghost use Rattle.hir_lower_builder.specs.Nests.{KidsPath, KidsQualified, KidsSegment, KidsTrait};
+ghost use Rattle.hir_lower_builder.specs.Paths as forms;
+ghost use Rattle.hir_lower_builder.specs.Walks.{at_first, names_in};
+ghost use Rattle.hir_lower_path.specs.Rooted.{bare_segment, bare_trait, read_at_root};
 ghost use Rattle.hir_lower_path.specs.Rooted as rule;
 
 use crate::path::{own_segments, projected_form, segment_form, trait_path};
 use crate::places::inside_projection;
 use hir_base::node::InFile;
-use hir_env::place::Place;
-use hir_lower_form::builder::BodyBuilder;
-use hir_lower_form::parts::{LowerPieces, Lowerer};
-use hir_lower_form::storing::Storing;
-use hir_lower_form::walk::{PathWalk, Reading, crate_kind};
-use hir_store::fault::StoreFault;
+use hir_env::ctx::LowerCtx;
+use hir_lower_builder::builder::BodyBuilder;
+use hir_lower_builder::parts::{LowerExprs, Lowerer};
+use hir_lower_builder::store_sink::StoreSink;
+use hir_lower_builder::walk::{PathWalk, Reading, crate_kind};
+use hir_store::error::StoreError;
 use hir_store::ids::{CrateId, TypeRefId};
 use hir_store::name::Name;
 use hir_store::path::{ModPath, Path, PathKind};
@@ -75,8 +75,8 @@ fn at_root(root: Option<CrateId>, bare: bool, reading: Reading) -> Reading
 fn if_read(
     root: Option<CrateId>,
     bare: bool,
-    reading: Result<Reading, StoreFault>,
-) -> Result<Reading, StoreFault>
+    reading: Result<Reading, StoreError>,
+) -> Result<Reading, StoreError>
     ensures { result ≡ rule.if_read root bare reading }
 {
     match reading {
@@ -86,23 +86,23 @@ fn if_read(
 }
 
 /// `<T as Trait>`, which stands for the names of the trait.
-#[tactic(auto, using(crate::proofs::Rooted::root_has, crate::proofs::Rooted::as_bare), unfolding(hir_lower_form::specs::Paths::with_trait))]
+#[tactic(auto, using(crate::proofs::Rooted::root_has, crate::proofs::Rooted::as_bare), unfolding(hir_lower_builder::specs::Paths::with_trait))]
 #[inline(never)]
-fn local_trait<I: Storing, P: LowerPieces<I>>(
+fn local_trait<I: StoreSink, P: LowerExprs<I>>(
     lowerer: &Lowerer<P>,
     state: &mut BodyBuilder<I>,
-    place: Place,
+    place: LowerCtx,
     walk: PathWalk,
     root: Option<CrateId>,
     ty: TypeRefId,
     node: &ast::PathType,
-) -> Result<Reading, StoreFault>
+) -> Result<Reading, StoreError>
     requires parts { KidsTrait (P.can lowerer.now.parts) place node.now }
     requires walk { HasWalk state.old.stored walk }
     requires ty { HasType state.old.stored ty }
-    ensures { let level = path_type_level (at_place (P.spot lowerer.now.parts) place) node.now in
+    ensures { let level = path_type_level (at_place (P.rctx lowerer.now.parts) place) node.now in
         let own = forms.with_trait (spec.lower_path level.path) ty level.pointer walk in
-        Lowers HasReading (rooted root (crate_local.is_bare (mod_path_of level.path)) own) state.old result state.new }
+        Lowers HasReading (read_at_root root (crate_local.is_bare (mod_path_of level.path)) own) state.old result state.new }
 {
     let Some(path) = trait_path(lowerer, state, place, node)? else {
         return Ok(Reading::Refused);
@@ -114,21 +114,21 @@ fn local_trait<I: Storing, P: LowerPieces<I>>(
 
 /// A qualified type with a trait.
 #[inline(never)]
-fn local_qualified<I: Storing, P: LowerPieces<I>>(
+fn local_qualified<I: StoreSink, P: LowerExprs<I>>(
     lowerer: &Lowerer<P>,
     state: &mut BodyBuilder<I>,
     walk: PathWalk,
     root: Option<CrateId>,
     ty: &Option<Boxed<ast::Type_>>,
     trait_: &ast::PathType,
-) -> Result<Reading, StoreFault>
-    requires parts { KidsQualified (P.can lowerer.now.parts) (P.spot lowerer.now.parts).place ty.now (Some trait_.now) }
+) -> Result<Reading, StoreError>
+    requires parts { KidsQualified (P.can lowerer.now.parts) (P.rctx lowerer.now.parts).place ty.now (Some trait_.now) }
     requires walk { HasWalk state.old.stored walk }
-    ensures { let spot = P.spot lowerer.now.parts in
-        let inner = at_place spot (of.inside_projection spot.place) in
+    ensures { let rctx = P.rctx lowerer.now.parts in
+        let inner = at_place rctx (of.inside_projection rctx.place) in
         let read = path_type_level inner trait_.now in
         let own = spec.read_segment true (qualified_segment (type_part inner ty.now) (Some read)) walk in
-        Lowers HasReading (rooted root (crate_local.is_bare (mod_path_of read.path)) own) state.old result state.new }
+        Lowers HasReading (read_at_root root (crate_local.is_bare (mod_path_of read.path)) own) state.old result state.new }
 {
     let Some(ty) = ty else {
         return Ok(Reading::Refused);
@@ -162,21 +162,21 @@ fn is_bare_segment(leading: bool, seg: Option<SegmentKind>) -> bool
 
 /// The segment, which begins at this root where it is one name that begins nowhere.
 #[inline(never)]
-fn local_segment<I: Storing, P: LowerPieces<I>>(
+fn local_segment<I: StoreSink, P: LowerExprs<I>>(
     lowerer: &Lowerer<P>,
     state: &mut BodyBuilder<I>,
     walk: PathWalk,
     leading: bool,
     root: Option<CrateId>,
     node: &ast::PathSegment,
-) -> Result<Reading, StoreFault>
-    requires parts { KidsSegment (P.can lowerer.now.parts) (P.spot lowerer.now.parts).place (out-PathSegment node.now) }
+) -> Result<Reading, StoreError>
+    requires parts { KidsSegment (P.can lowerer.now.parts) (P.rctx lowerer.now.parts).place (out-PathSegment node.now) }
     requires walk { HasWalk state.old.stored walk }
-    ensures { let spot = P.spot lowerer.now.parts in
+    ensures { let rctx = P.rctx lowerer.now.parts in
         let level = out-PathSegment node.now in
-        let inner = at_place spot (of.inside_projection spot.place) in
-        let own = spec.read_segment true (segment_level spot node.now) (at_first leading walk) in
-        Lowers HasReading (rooted root (bare_segment leading level.seg (path_type_part inner level.trait_)) own)
+        let inner = at_place rctx (of.inside_projection rctx.place) in
+        let own = spec.read_segment true (segment_level rctx node.now) (at_first leading walk) in
+        Lowers HasReading (read_at_root root (bare_segment leading level.seg (path_type_part inner level.trait_)) own)
         state.old result state.new }
 {
     let walk = walk.at_first(leading);
@@ -196,18 +196,18 @@ fn local_segment<I: Storing, P: LowerPieces<I>>(
 /// The segment of a path of one, in a call.
 #[tactic(auto, using(crate::proofs::Rooted::local_reads))]
 #[inline(never)]
-fn only_segment<I: Storing, P: LowerPieces<I>>(
+fn only_segment<I: StoreSink, P: LowerExprs<I>>(
     lowerer: &Lowerer<P>,
     state: &mut BodyBuilder<I>,
     walk: PathWalk,
     leading: bool,
     node: &ast::PathSegment,
-) -> Result<Reading, StoreFault>
-    requires parts { KidsSegment (P.can lowerer.now.parts) (P.spot lowerer.now.parts).place (out-PathSegment node.now) }
+) -> Result<Reading, StoreError>
+    requires parts { KidsSegment (P.can lowerer.now.parts) (P.rctx lowerer.now.parts).place (out-PathSegment node.now) }
     requires walk { HasWalk state.old.stored walk }
-    ensures { let spot = P.spot lowerer.now.parts in
-        let root = local_root spot.answers (context_at spot.answers spot.place (out-PathSegment node.now).id) in
-        let plain = tree.path None leading (segment_level spot node.now) tree.no_segments tree.no_path in
+    ensures { let rctx = P.rctx lowerer.now.parts in
+        let root = local_root rctx.answers (context_at rctx.answers rctx.place (out-PathSegment node.now).id) in
+        let plain = tree.path None leading (segment_level rctx node.now) tree.no_segments tree.no_path in
         ReadsPath (at_local_root root plain) walk state.old result state.new }
 {
     let at = InFile {
@@ -222,14 +222,14 @@ fn only_segment<I: Storing, P: LowerPieces<I>>(
 
 /// A path without any segment that is there, in a call.
 #[inline(never)]
-fn absent_path<I: Storing>(
+fn absent_path<I: StoreSink>(
     state: &mut BodyBuilder<I>,
     walk: PathWalk,
     leading: bool,
-) -> Result<Reading, StoreFault>
+) -> Result<Reading, StoreError>
     requires walk { HasWalk state.old.stored walk }
     ensures { let plain = tree.path None leading tree.absent_segment tree.no_segments tree.no_path in
-        ReadsPath (crate_local.lacking leading plain) walk state.old result state.new }
+        ReadsPath (crate_local.or_broken leading plain) walk state.old result state.new }
 {
     if leading {
         Ok(walk.at_first(true).named(Name::Missing, None)?)
@@ -240,17 +240,17 @@ fn absent_path<I: Storing>(
 
 /// A path that stands directly in a call, where no use tree stands around it.
 #[inline(never)]
-pub(crate) fn called_path<I: Storing, P: LowerPieces<I>>(
+pub(crate) fn called_path<I: StoreSink, P: LowerExprs<I>>(
     lowerer: &Lowerer<P>,
     state: &mut BodyBuilder<I>,
     walk: PathWalk,
     node: &ast::Path,
-) -> Result<Reading, StoreFault>
-    requires parts { KidsPath (P.can lowerer.now.parts) (P.spot lowerer.now.parts).place (out-Path node.now) }
+) -> Result<Reading, StoreError>
+    requires parts { KidsPath (P.can lowerer.now.parts) (P.rctx lowerer.now.parts).place (out-Path node.now) }
     requires walk { HasWalk state.old.stored walk }
     requires called { (out-Path node.now).in_macro ≡ true }
     requires alone { (out-Path node.now).use_ ≡ None }
-    ensures { ReadsPath (path_level (P.spot lowerer.now.parts) node.now) walk state.old result state.new }
+    ensures { ReadsPath (path_level (P.rctx lowerer.now.parts) node.now) walk state.old result state.new }
 {
     let all = node.segs.as_slice();
     let Some((first, rest)) = all.split_first() else {

@@ -3,7 +3,7 @@
 ghost use Rattle.std.specs.Prelude.{◌≡◌};
 ghost use Rattle.hir_env.specs.Paths as spec;
 
-use hir_env::place::{LifetimeScope, Place};
+use hir_env::ctx::{LifetimeScope, LowerCtx};
 
 /// A lifetime in a projection in an argument doesn't count.
 fn in_projection_scope(scope: LifetimeScope) -> LifetimeScope
@@ -18,10 +18,10 @@ fn in_projection_scope(scope: LifetimeScope) -> LifetimeScope
     }
 }
 
-pub(crate) fn inside_projection(place: Place) -> Place
+pub(crate) fn inside_projection(place: LowerCtx) -> LowerCtx
     ensures { result ≡ spec.inside_projection place }
 {
-    Place {
+    LowerCtx {
         lifetimes: in_projection_scope(place.lifetimes),
         ..place
     }

@@ -2,7 +2,7 @@
 use Rattle.std.proofs.Common.{arith, ◌≡◌, ◌∙◌, refl, sym, ap, ℕ, zero, suc, ◌-◌, ◌<◌, ◌≤◌, Bool, true, false, if◌then◌else◌}
 use Rattle.std.proofs.Common.{List, [], ◌∷◌, ◌++◌, length, Option, Some, None, is_some, slice_get}
 use Rattle.hir_syntax.specs.declared.ast.PathSegment.{PathSegment as AstSegment}
-use Rattle.hir_data.specs.Segments.{named_among, segment_name}
+use Rattle.spec_data.specs.Segments.{named_among, segment_name}
 
 both : (xs ys : List (Option AstSegment)) → named_among (xs ++ ys) ≡ named_among xs ++ named_among ys
 both [] ys = refl

@@ -1,21 +1,25 @@
--- What the stacks stand for: the list of what is open, innermost first.
-use Rattle.std.specs.Prelude.{◌≡◌, ◌≤◌, ◌<◌, ℕ, nat_eq, if◌then◌else◌, List, [], ◌∷◌, length, reverse, ◌++◌, zero, suc}
+-- What the code keeps stands for the list of what is open, innermost first.
+use Rattle.std.specs.Prelude.{◌≡◌, ◌≤◌, ℕ, nat_eq, Bool, false, if◌then◌else◌, List, [], ◌∷◌, length}
 use Rattle.std.specs.Prelude.{Option, Some, None, unwrap_or}
 use Rattle.std.specs.BTreeMap.{is_at}
+use Rattle.std.specs.BTreeSet.{BTreeSet, contains}
 use Rattle.std.specs.Map.{lookup}
+use Rattle.std.specs.Ordering.{ordering_then, nat_cmp}
+use Rattle.std.specs.declared.cmp.Ordering.{Ordering}
 use Rattle.hir_store.specs.NameOrder.{name_cmp}
 use Rattle.hir_store.specs.declared.name.Name.{Name}
 use Rattle.hir_store.specs.declared.name.Name.TheVariants as name
 use Rattle.hir_store.specs.declared.ids.LabelId.{LabelId}
-use Rattle.hir_scope.specs.Ribs.{Rib, label_rib, try_rib, macro_rib, barrier_rib}
+use Rattle.hir_store.specs.declared.ids.HygieneId.{HygieneId}
+use Rattle.hir_store.specs.declared.ids.MacroDefId.{MacroDefId}
+use Rattle.hir_lower_scope.specs.ScopeRibs.{Rib, label_rib, try_rib, macro_rib, barrier_rib}
 use Rattle.hir_lower_scope.specs.declared.stacks.Opened.{Opened}
 use Rattle.hir_lower_scope.specs.declared.stacks.Opened.TheVariants as opened
-use Rattle.hir_lower_scope.specs.declared.stacks.OpenLabel.{OpenLabel}
-use Rattle.hir_lower_scope.specs.declared.stacks.OpenMacro.{OpenMacro}
 use Rattle.hir_lower_scope.specs.declared.stacks.OpenTry.{OpenTry}
-use Rattle.hir_lower_scope.specs.Ribs.{labels_of, macros_of, tries_of, borders_of}
+use Rattle.hir_lower_scope.specs.Depths.{by_key}
+use Rattle.hir_lower_scope.specs.Ribs.{tries_of, barriers_of, rib_at, is_label, is_outer}
 
--- the name whose place this is
+-- the name whose number this is
 abbrev pub name_in : List (Name × ℕ) → ℕ → Option Name
 name_in [] k = None
 name_in (e ∷ es) k = if nat_eq e.1 k then Some e.0 else name_in es k
@@ -34,65 +38,48 @@ abbrev pub ribs_of : List (Name × ℕ) → List Opened → List (Rib LabelId)
 ribs_of es [] = []
 ribs_of es (o ∷ os) = rib_of es o ∷ ribs_of es os
 
--- the place of a name
-abbrev pub place_of : Name → List (Name × ℕ) → Option ℕ
-place_of name es = lookup (is_at (name_cmp name)) es
+-- the number of a name
+abbrev pub number_of : Name → List (Name × ℕ) → Option ℕ
+number_of name es = lookup (is_at (name_cmp name)) es
 
-abbrev pub list_at : List (List OpenLabel) → ℕ → List OpenLabel
-list_at [] k = []
-list_at (s ∷ ss) zero = s
-list_at (s ∷ ss) (suc k) = list_at ss k
+-- Each name has a number of its own, and the next number is free.
+pub record Known (es : List (Name × ℕ)) : Type 0 where
+  pub named : (n : Name) (k : ℕ) → number_of n es ≡ Some k → name_in es k ≡ Some n
+  pub free : (k : ℕ) → length es ≤ k → name_in es k ≡ None
 
--- the stack at a place, innermost first; an empty one at none
-abbrev pub stack_in : List (List OpenLabel) → Option ℕ → List OpenLabel
-stack_in ss None = []
-stack_in ss (Some k) = reverse (list_at ss k)
+-- Each label is noted by the number of its name.
+abbrev pub Numbered : List (Name × ℕ) → List Opened → Type 0
+Numbered es [] = Unit {0}
+Numbered es (opened.Label k h a ∷ os) = (number_of (name_at es k) es ≡ Some k) × Numbered es os
+Numbered es (opened.Try a typed ∷ os) = Numbered es os
+Numbered es (opened.MacroDef d ∷ os) = Numbered es os
+Numbered es (opened.Barrier ∷ os) = Numbered es os
 
-abbrev pub stack_of : Name → List (Name × ℕ) → List (List OpenLabel) → List OpenLabel
-stack_of name es ss = stack_in ss (place_of name es)
+abbrev pub label_cmp : ℕ × HygieneId → ℕ × HygieneId → Ordering
+label_cmp x y = ordering_then (nat_cmp x.0 y.0) (nat_cmp x.1.0 y.1.0)
 
--- Each name has a stack of its own, and no place that has none is given away.
-pub record Known (es : List (Name × ℕ)) (ss : List (List OpenLabel)) : Type 0 where
-  pub named : (n : Name) (k : ℕ) → place_of n es ≡ Some k → (k < length ss) × (name_in es k ≡ Some n)
-  pub free : (k : ℕ) → length ss ≤ k → name_in es k ≡ None
+abbrev pub macro_cmp : MacroDefId → MacroDefId → Ordering
+macro_cmp x y = nat_cmp x.0 y.0
 
--- Each label is noted by the place of its name.
-abbrev pub Placed : List (Name × ℕ) → List Opened → Type 0
-Placed es [] = Unit {0}
-Placed es (opened.Label k h a ∷ os) = (place_of (name_at es k) es ≡ Some k) × Placed es os
-Placed es (opened.Try a typed ∷ os) = Placed es os
-Placed es (opened.MacroDef d ∷ os) = Placed es os
-Placed es (opened.Barrier ∷ os) = Placed es os
+-- whether the set has a name of this number and this hygiene at this depth
+abbrev pub is_marked : BTreeSet ((ℕ × HygieneId) × ℕ) → Option ℕ → HygieneId → ℕ → Bool
+is_marked ls None h q = false
+is_marked ls (Some k) h q = contains (by_key label_cmp) ls ((k, h), q)
 
--- the stacks are what is open, sorted by kind
-pub record Sorted (es : List (Name × ℕ)) (ss : List (List OpenLabel)) (os : List Opened) (ms : List OpenMacro) (ts : List OpenTry)
-    (bs : List ℕ) : Type 0 where
-  pub labels : (n : Name) → stack_of n es ss ≡ labels_of n (ribs_of es os)
-  pub macros : ms ≡ macros_of (ribs_of es os)
+-- the sets and stacks are what is open
+pub record Sorted (es : List (Name × ℕ)) (ls : BTreeSet ((ℕ × HygieneId) × ℕ)) (ms : BTreeSet (MacroDefId × ℕ)) (os : List Opened)
+    (ts : List OpenTry) (bs : List ℕ) : Type 0 where
+  pub labels : (n : Name) (h : HygieneId) (q : ℕ) → is_marked ls (number_of n es) h q ≡ is_label n h (rib_at q (ribs_of es os))
+  pub macros : (d : MacroDefId) (q : ℕ) → contains (by_key macro_cmp) ms (d, q) ≡ is_outer (Some d) (rib_at q (ribs_of es os))
+  pub unnamed : (k : ℕ) (h : HygieneId) (q : ℕ) → name_in es k ≡ None → contains (by_key label_cmp) ls ((k, h), q) ≡ false
   pub tries : ts ≡ tries_of (ribs_of es os)
-  pub borders : bs ≡ borders_of (ribs_of es os)
-  pub placed : Placed es os
-  pub known : Known es ss
+  pub barriers : bs ≡ barriers_of (ribs_of es os)
+  pub numbered : Numbered es os
+  pub known : Known es
 
-abbrev pub pushed_at : ℕ → OpenLabel → List (List OpenLabel) → List (List OpenLabel)
-pushed_at k x [] = []
-pushed_at zero x (s ∷ ss) = (s ++ x ∷ []) ∷ ss
-pushed_at (suc k) x (s ∷ ss) = s ∷ pushed_at k x ss
-
-abbrev pub tail_of : List OpenLabel → List OpenLabel
-tail_of [] = []
-tail_of (x ∷ xs) = xs
-
--- the stack at this place lost its last entry
-abbrev pub PoppedAt : ℕ → List (List OpenLabel) → List (List OpenLabel) → Type 0
-PoppedAt k [] ts = ⊥
-PoppedAt zero (s ∷ ss) [] = ⊥
-PoppedAt zero (s ∷ ss) (t ∷ ts) = (reverse t ≡ tail_of (reverse s)) × (ts ≡ ss)
-PoppedAt (suc k) (s ∷ ss) [] = ⊥
-PoppedAt (suc k) (s ∷ ss) (t ∷ ts) = (t ≡ s) × PoppedAt k ss ts
-
--- maybe with a name more, whose stack is empty
-pub record Grown (es : List (Name × ℕ)) (ss : List (List OpenLabel)) (fs : List (Name × ℕ)) (ts : List (List OpenLabel)) : Type 0 where
-  pub stacks : (n : Name) → stack_of n fs ts ≡ stack_of n es ss
-  pub places : (n : Name) (k : ℕ) → place_of n es ≡ Some k → place_of n fs ≡ Some k
-  pub known : Known fs ts
+-- maybe with a name more
+pub record Grown (es : List (Name × ℕ)) (fs : List (Name × ℕ)) : Type 0 where
+  pub numbers : (n : Name) (k : ℕ) → number_of n es ≡ Some k → number_of n fs ≡ Some k
+  pub others : (n : Name) (k : ℕ) → number_of n es ≡ None → number_of n fs ≡ Some k → name_in es k ≡ None
+  pub unnamed : (k : ℕ) → name_in fs k ≡ None → name_in es k ≡ None
+  pub known : Known fs

@@ -1,37 +1,23 @@
-//! Which labels are open, each in the stack of its name; which macros are defined around; which borders and `try`s are open.
+//! Which labels are open and which macros are defined around, each found by what a jump seeks; which borders and `try`s are open.
 
-ghost use Rattle.std.specs.Prelude.{None, Some, IfOk, ◌≡◌, ◌+◌, ◌<◌, ◌^◌, [], ◌∷◌, ◌++◌, OnOk, OnErr, length, reverse, option_to_list};
-ghost use Rattle.hir_scope.specs.Ribs.{Rib, label_rib, try_rib, macro_rib, barrier_rib, innermost_try_rib};
-ghost use Rattle.hir_lower_scope.specs.Ribs.{labels_of, macros_of, past_border, last_try};
-ghost use Rattle.hir_lower_scope.specs.Stacks.{Grown, Known, place_of, stack_of, pushed_at, PoppedAt};
+ghost use Rattle.std.specs.Prelude.{None, Some, IfOk, ◌≡◌, ◌+◌, ◌<◌, ◌^◌, [], ◌∷◌, OnOk, OnErr, length, reverse};
+ghost use Rattle.hir_lower_scope.specs.ScopeRibs.{Rib, label_rib, try_rib, macro_rib, barrier_rib, innermost_try_rib};
+ghost use Rattle.hir_lower_scope.specs.Ribs.{past_barrier, last_try, rib_at, is_label, is_outer, is_met, label_in};
+ghost use Rattle.hir_lower_scope.specs.Stacks.{Grown, Known, number_of};
+ghost use Rattle.hir_lower_scope.specs.Depths.{IsDeepest};
 ghost use Rattle.hir_lower_scope.specs.Labels.{rest};
 ghost use Rattle.hir_lower_scope.specs.Found.{try_of};
 
+use crate::depths::{deeper, deepest};
 use crate::labels::TryLabel;
-use crate::looks::Looks;
-use hir_base::Seq;
+use crate::looks::ProbeCount;
 use hir_store::ids::{HygieneId, LabelId, MacroDefId};
 use hir_store::name::Name;
 use std::alloc::{AllocError, Global};
-use std::collections::BTreeMap;
+use std::collections::{BTreeMap, BTreeSet};
 use std::marker::Model;
 
-/// An open label of some name. Its depth is how many scopes lie outside of it, here and below.
-#[derive(Clone, Copy)]
-pub struct OpenLabel {
-    pub depth: usize,
-    pub hygiene: HygieneId,
-    pub label: LabelId,
-}
-
-/// A macro that is defined around.
-#[derive(Clone, Copy)]
-pub struct OpenMacro {
-    pub depth: usize,
-    pub def: MacroDefId,
-}
-
-/// An open `try`.
+/// An open `try`. Its depth is how many scopes lie outside of it, here and below.
 #[derive(Clone, Copy)]
 pub struct OpenTry {
     pub depth: usize,
@@ -39,7 +25,7 @@ pub struct OpenTry {
     pub typed: bool,
 }
 
-/// What was opened: a label, with the place of its name, or something else.
+/// What was opened: a label, with the number of its name, or something else.
 #[derive(Clone, Copy)]
 enum Opened {
     Label(usize, HygieneId, LabelId),
@@ -48,50 +34,27 @@ enum Opened {
     Barrier,
 }
 
-/// Entries of a stack that nothing has looked at. Contracts see them innermost first.
-pub struct Unseen<'a, T> {
-    entries: &'a [T],
-}
-
-impl<'a, T> Drop for Unseen<'a, T> {
-    fn drop(self) {
-        let Unseen { entries: _ } = self;
-    }
-}
-
-impl<'a, T> Model for Unseen<'a, T> {
-    ghost use Rattle.std.specs.Prelude.{List, reverse};
-    ghost use Rattle.std.specs.Coded.{coded_list};
-
-    ghost Value = { List T };
-
-    ghost coded = { coded_list T.code };
-
-    ghost view = { λ u. reverse u.entries.now };
-}
-
-/// The labels that are open, with the macro definitions, the borders and each `try`, each kind in stacks of its own. Contracts see them
-/// as one list, innermost first.
+/// What is open, one in the other. Beside it stand a number for each name, the depths of the labels by that number and hygiene, and the
+/// depths of the macro definitions by macro, so that a search comes to those that it is for and to no other. Each `try` and each border has
+/// a stack of its own. Contracts see one list, innermost first.
 pub struct LabelStacks {
     opened: Vec<Opened>,
-    places: BTreeMap<Name, usize>,
-    labels: Vec<Seq<OpenLabel>>,
-    macros: Vec<OpenMacro>,
+    names: BTreeMap<Name, usize>,
+    labels: BTreeSet<((usize, HygieneId), usize)>,
+    macros: BTreeSet<(MacroDefId, usize)>,
     tries: Vec<OpenTry>,
-    borders: Vec<usize>,
-    alloc: Global,
+    barriers: Vec<usize>,
 }
 
 impl Drop for LabelStacks {
     fn drop(self) {
         let LabelStacks {
             opened: _,
-            places: _,
+            names: _,
             labels: _,
             macros: _,
             tries: _,
-            borders: _,
-            alloc: _,
+            barriers: _,
         } = self;
     }
 }
@@ -99,15 +62,15 @@ impl Drop for LabelStacks {
 impl Model for LabelStacks {
     ghost use Rattle.std.specs.Prelude.{List, reverse};
     ghost use Rattle.hir_store.specs.declared.ids.LabelId.{LabelId};
-    ghost use Rattle.hir_scope.specs.Ribs.{Rib};
+    ghost use Rattle.hir_lower_scope.specs.ScopeRibs.{Rib};
     ghost use Rattle.hir_lower_scope.specs.Stacks.{ribs_of, Sorted};
 
     ghost Value = { List (Rib LabelId) };
 
-    ghost view = { λ s. ribs_of s.places.entries (reverse s.opened.items) };
+    ghost view = { λ s. ribs_of s.names.entries (reverse s.opened.items) };
 
-    ghost invariant = { λ s. Sorted s.places.entries s.labels.items (reverse s.opened.items)
-        (reverse s.macros.items) (reverse s.tries.items) (reverse s.borders.items) };
+    ghost invariant = { λ s. Sorted s.names.entries s.labels s.macros (reverse s.opened.items) (reverse s.tries.items)
+        (reverse s.barriers.items) };
 }
 
 impl LabelStacks {
@@ -117,12 +80,11 @@ impl LabelStacks {
     {
         LabelStacks {
             opened: Vec::new(alloc),
-            places: BTreeMap::new(alloc),
-            labels: Vec::new(alloc),
-            macros: Vec::new(alloc),
+            names: BTreeMap::new(alloc),
+            labels: BTreeSet::new(alloc),
+            macros: BTreeSet::new(alloc),
             tries: Vec::new(alloc),
-            borders: Vec::new(alloc),
-            alloc,
+            barriers: Vec::new(alloc),
         }
     }
 
@@ -137,19 +99,11 @@ impl LabelStacks {
         ensures err { OnErr result (self.new ≡ self.old) }
     {
         self.opened.reserve(1)?;
-        let place = place_for(&mut self.places, &mut self.labels, name, self.alloc)?;
+        let number = number_for(&mut self.names, name)?;
         let depth = self.opened.len();
-        push_at(
-            &mut self.labels,
-            place,
-            OpenLabel {
-                depth,
-                hygiene,
-                label,
-            },
-        )?;
+        self.labels.insert(((number, hygiene), depth))?;
         self.opened
-            .push_reserved(Opened::Label(place, hygiene, label));
+            .push_reserved(Opened::Label(number, hygiene, label));
         Ok(())
     }
 
@@ -173,7 +127,7 @@ impl LabelStacks {
     pub fn find_try(&self) -> Option<TryLabel>
         ensures { try_of result ≡ innermost_try_rib self.now }
     {
-        last_try(self.tries.as_slice(), self.border())
+        last_try(self.tries.as_slice(), self.barrier())
     }
 
     /// From here on a macro is defined.
@@ -183,7 +137,7 @@ impl LabelStacks {
     {
         self.opened.reserve(1)?;
         let depth = self.opened.len();
-        self.macros.push(OpenMacro { depth, def })?;
+        self.macros.insert((def, depth))?;
         self.opened.push_reserved(Opened::MacroDef(def));
         Ok(())
     }
@@ -195,7 +149,7 @@ impl LabelStacks {
     {
         self.opened.reserve(1)?;
         let depth = self.opened.len();
-        self.borders.push(depth + 1)?;
+        self.barriers.push(depth + 1)?;
         self.opened.push_reserved(Opened::Barrier);
         Ok(())
     }
@@ -206,73 +160,92 @@ impl LabelStacks {
     {
         match self.opened.pop() {
             None => {}
-            Some(Opened::Label(place, _, _)) => pop_at(&mut self.labels, place),
+            Some(Opened::Label(number, hygiene, _)) => {
+                let _ = self.labels.remove(&((number, hygiene), self.opened.len()));
+            }
             Some(Opened::Try(_, _)) => {
                 let _ = self.tries.pop();
             }
-            Some(Opened::MacroDef(_)) => {
-                let _ = self.macros.pop();
+            Some(Opened::MacroDef(def)) => {
+                let _ = self.macros.remove(&(def, self.opened.len()));
             }
             Some(Opened::Barrier) => {
-                let _ = self.borders.pop();
+                let _ = self.barriers.pop();
             }
         }
     }
 
     /// One more than the depth of the innermost border, and 0 where there is none.
-    pub fn border(&self) -> usize
-        ensures { result ≡ past_border self.now }
+    pub fn barrier(&self) -> usize
+        ensures { result ≡ past_barrier self.now }
     {
-        match self.borders.last() {
+        match self.barriers.last() {
             None => 0,
-            Some(border) => *border,
+            Some(barrier) => *barrier,
         }
     }
 
-    /// The open labels of a name.
-    pub fn labels(&self, name: &Name) -> Unseen<'_, OpenLabel>
-        ensures labels { result ≡ labels_of name.now self.now }
-        ensures few { length (labels_of name.now self.now) < 2 ^ 64 }
+    /// How much is open.
+    pub fn depth(&self) -> usize
+        ensures { result ≡ length self.now }
     {
-        Unseen {
-            entries: stack_at(&self.places, self.labels.as_slice(), name),
-        }
+        self.opened.len()
     }
 
-    /// The macros that are defined around.
-    pub fn macros(&self) -> Unseen<'_, OpenMacro>
-        ensures macros { result ≡ macros_of self.now }
-        ensures few { length (macros_of self.now) < 2 ^ 64 }
+    /// The depth of the innermost label of this name and hygiene, or definition of this macro, among what is less deep.
+    pub fn nearest(
+        &self,
+        name: &Name,
+        hygiene: HygieneId,
+        outer: Option<MacroDefId>,
+        below: usize,
+    ) -> Option<usize>
+        ensures { IsDeepest (λ q. is_met name.now hygiene outer (rib_at q self.now)) below result }
     {
-        Unseen {
-            entries: self.macros.as_slice(),
-        }
+        deeper(
+            self.label_below(name, hygiene, below),
+            self.macro_below(outer, below),
+        )
     }
 
-    /// Looks at the innermost entry that wasn't looked at, where there is one. Nothing else reads an entry.
-    pub fn look<T: Copy>(unseen: &mut Unseen<'_, T>, looks: &mut Looks) -> Option<T>
-        requires { looks.old + length unseen.old < 2 ^ 128 }
-        ensures taken { unseen.old ≡ option_to_list result ++ unseen.new }
-        ensures counted { looks.new + length unseen.new ≡ looks.old + length unseen.old }
-        ensures none { result ≡ None → unseen.old ≡ [] }
+    /// The depth of the innermost label of this name and hygiene among what is less deep.
+    fn label_below(&self, name: &Name, hygiene: HygieneId, below: usize) -> Option<usize>
+        ensures { IsDeepest (λ q. is_label name.now hygiene (rib_at q self.now)) below result }
     {
-        let [outer @ .., entry] = unseen.entries else {
-            return None;
-        };
-        unseen.entries = outer;
+        let number = *self.names.get(name)?;
+        deepest(&self.labels, (number, hygiene), below)
+    }
+
+    /// The depth of the innermost definition of this macro among what is less deep.
+    fn macro_below(&self, outer: Option<MacroDefId>, below: usize) -> Option<usize>
+        ensures { IsDeepest (λ q. is_outer outer (rib_at q self.now)) below result }
+    {
+        deepest(&self.macros, outer?, below)
+    }
+
+    /// Looks at what is open at this depth: which label it is, where it is one. Nothing else reads an entry.
+    pub fn look(&self, depth: usize, looks: &mut ProbeCount) -> Option<LabelId>
+        requires inside { depth < length self.now }
+        requires count { looks.old + 1 < 2 ^ 128 }
+        ensures label { result ≡ label_in (rib_at depth self.now) }
+        ensures counted { looks.new ≡ looks.old + 1 }
+    {
         looks.add();
-        Some(*entry)
+        match self.opened[depth] {
+            Opened::Label(_, _, label) => Some(label),
+            _ => None,
+        }
     }
 }
 
 /// The last of these, where no border is deeper.
-fn last_try(tries: &[OpenTry], border: usize) -> Option<TryLabel>
-    ensures { try_of result ≡ last_try border (reverse tries.now) }
+fn last_try(tries: &[OpenTry], barrier: usize) -> Option<TryLabel>
+    ensures { try_of result ≡ last_try barrier (reverse tries.now) }
 {
     let [.., last] = tries else {
         return None;
     };
-    if last.depth < border {
+    if last.depth < barrier {
         return None;
     }
     Some(TryLabel {
@@ -281,59 +254,16 @@ fn last_try(tries: &[OpenTry], border: usize) -> Option<TryLabel>
     })
 }
 
-/// The place of the stack of this name, which is made where there is none. Where memory is refused nothing changes.
-fn place_for(
-    places: &mut BTreeMap<Name, usize>,
-    labels: &mut Vec<Seq<OpenLabel>>,
-    name: Name,
-    alloc: Global,
-) -> Result<usize, AllocError>
-    requires { Known places.old.entries labels.old.items }
-    ensures place { IfOk result (λ k. place_of name places.new.entries ≡ Some k) }
-    ensures grown { Grown places.old.entries labels.old.items places.new.entries labels.new.items }
+/// The number of this name, which is given where it has none. Where memory is refused nothing changes.
+fn number_for(names: &mut BTreeMap<Name, usize>, name: Name) -> Result<usize, AllocError>
+    requires { Known names.old.entries }
+    ensures number { IfOk result (λ k. number_of name names.new.entries ≡ Some k) }
+    ensures grown { Grown names.old.entries names.new.entries }
 {
-    if let Some(place) = places.get(&name) {
-        return Ok(*place);
+    if let Some(number) = names.get(&name) {
+        return Ok(*number);
     }
-    labels.reserve(1)?;
-    let place = labels.len();
-    places.insert(name, place)?;
-    labels.push_reserved(Seq::new(alloc));
-    Ok(place)
-}
-
-/// Puts an entry on the stack at this place. Where memory is refused nothing changes.
-fn push_at(
-    labels: &mut Vec<Seq<OpenLabel>>,
-    place: usize,
-    entry: OpenLabel,
-) -> Result<(), AllocError>
-    requires { place < length labels.old.items }
-    ensures ok { OnOk result (labels.new.items ≡ pushed_at place entry labels.old.items) }
-    ensures unchanged { OnErr result (labels.new.items ≡ labels.old.items) }
-{
-    labels[place].push(entry)
-}
-
-/// Takes the last entry from the stack at this place.
-fn pop_at(labels: &mut Vec<Seq<OpenLabel>>, place: usize)
-    requires { place < length labels.old.items }
-    ensures { PoppedAt place labels.old.items labels.new.items }
-{
-    let _ = labels[place].pop();
-}
-
-/// The stack of this name; an empty one where there is none.
-fn stack_at<'a>(
-    places: &BTreeMap<Name, usize>,
-    labels: &'a [Seq<OpenLabel>],
-    name: &Name,
-) -> &'a [OpenLabel]
-    requires { Known places.now.entries labels.now }
-    ensures { reverse result.now ≡ stack_of name.now places.now.entries labels.now }
-{
-    match places.get(name) {
-        Some(place) => labels[*place].as_slice(),
-        None => &[],
-    }
+    let number = names.len();
+    names.insert(name, number)?;
+    Ok(number)
 }

@@ -3,16 +3,16 @@ use Rattle.std.proofs.Common.{arith, ◌≡◌, ◌∙◌, ap, refl, subst, sym,
 use Rattle.hir_store.specs.Past.{Past, join}
 use Rattle.hir_store.specs.Range.{Grows, Has}
 use Rattle.hir_store.specs.Stored.{Stored}
-use Rattle.hir_store.specs.declared.fault.StoreFault.{StoreFault}
-use Rattle.hir_env.specs.Answered as tree
-use Rattle.hir_env.specs.Answered.{Arg}
+use Rattle.hir_store.specs.declared.error.StoreError.{StoreError}
+use Rattle.hir_env.specs.ResolvedTree as tree
+use Rattle.hir_env.specs.ResolvedTree.{Arg}
 use Rattle.hir_store.specs.declared.path.GenericArg.TheVariants as arg
-use Rattle.hir_lower_form.specs.Builder.{Builder}
-use Rattle.hir_lower_form.specs.Lower.{args_part, lower_arg, lower_bounds, lower_constant, present_type, type_part}
-use Rattle.hir_lower_form.specs.Lowering.{Checked, Lowering, Lowers, ◌>>=◌, go_on, pure}
-use Rattle.hir_lower_form.specs.Methods.{HasLists}
-use Rattle.hir_lower_form.specs.Types.{binding_form, lower_lifetime, past_lists}
-use Rattle.hir_lower_form.specs.declared.args.ArgLists.{ArgLists}
+use Rattle.hir_lower_builder.specs.Builder.{Builder}
+use Rattle.hir_lower_builder.specs.Lower.{args_part, lower_arg, lower_bounds, lower_constant, present_type, type_part}
+use Rattle.hir_lower_builder.specs.Lowering.{Checked, Lowering, Lowers, ◌>>=◌, go_on, pure}
+use Rattle.hir_lower_builder.specs.Methods.{HasLists}
+use Rattle.hir_lower_builder.specs.Types.{binding_form, lower_lifetime, past_lists}
+use Rattle.hir_lower_builder.specs.declared.args.ArgLists.{ArgLists}
 use Rattle.hir_lower_type.specs.Single.{HasOne, IsBehind, past_one, single_arg, with_one}
 use Rattle.hir_lower_type.specs.declared.one_arg.OneArg.{OneArg}
 use Rattle.hir_lower_type.specs.declared.one_arg.OneArg.TheVariants as one
@@ -25,7 +25,7 @@ mapped f g (Err e) b = refl
 
 -- where steps fail, what comes behind them does so too
 pub fails_on : {A B : Type 0} (HasA : Stored → A → Type 0) (HasB : Stored → B → Type 0) (p : Lowering A) (f : A → Lowering B)
-    (old new : Builder) (e : StoreFault) → Lowers HasA p old (Err e) new → Lowers HasB (p >>= f) old (Err e) new
+    (old new : Builder) (e : StoreError) → Lowers HasA p old (Err e) new → Lowers HasB (p >>= f) old (Err e) new
 fails_on HasA HasB p f old new e h = λ n. (ap (λ o. go_on o.0 o.1 f) (h n).0, (h n).1)
 
 grown : (old mid new : Builder) → Grows old.stored mid.stored → Grows mid.stored new.stored → Grows old.stored new.stored
@@ -62,7 +62,7 @@ lowers_behind l m a o old new e p k h = (
   subst (Has new.stored) (sym p) (both_there old.stored new.stored (past_lists l) (past_one o) h.1 k h.2),
 )
 
-pub fails_behind : (l : ArgLists) (a : Arg) (old new : Builder) (e : StoreFault) → Lowers HasOne (single_arg a) old (Err e) new
+pub fails_behind : (l : ArgLists) (a : Arg) (old new : Builder) (e : StoreError) → Lowers HasOne (single_arg a) old (Err e) new
     → Lowers HasLists (lower_arg l a) old (Err e) new
 fails_behind l a old new e h = λ n. (
   behind_single l a old ∙ ap (λ q. go_on q.0 q.1 (λ x. pure (with_one l x))) (h n).0,

@@ -6,20 +6,20 @@ use Rattle.hir_syntax.specs.declared.macros.MacroCall.{MacroCall as AstMacroCall
 use Rattle.hir_syntax.specs.declared.types.Type_.{Type_ as AstType_}
 use Rattle.hir_store.specs.Pointers.{Pointer}
 use Rattle.hir_env.specs.declared.expand.FragmentKind.TheVariants as kind
-use Rattle.hir_env.specs.declared.place.Place.{Place}
+use Rattle.hir_env.specs.declared.ctx.LowerCtx.{LowerCtx}
 use Rattle.hir_env.specs.Answers.{Answers, Eager, Expanding, unresolved, no_expansion, expanded}
-use Rattle.hir_env.specs.Answered as tree
-use Rattle.hir_env.specs.Answered.{Binder}
+use Rattle.hir_env.specs.ResolvedTree as tree
+use Rattle.hir_env.specs.ResolvedTree.{Binder}
 use Rattle.hir_env.specs.Calls.{asked_call, call_pointer, called, entered_type, inside_file, type_in}
 use Rattle.hir_env.specs.Layers.{Entering}
-use Rattle.hir_env.specs.Spot.{Spot}
+use Rattle.hir_env.specs.ResolveCtx.{ResolveCtx}
 use Rattle.hir_env.specs.Whole.{entering, read_expr, read_pat, read_stmt, read_type, read_value}
-use Rattle.hir_lower_form.specs.Builder.{Builder}
-use Rattle.hir_lower_form.specs.Calls.{Found, enter_left, entered_at, found_in, note, told}
-use Rattle.hir_lower_form.specs.Lower.{lower_type}
-use Rattle.hir_lower_form.specs.Lowering.{Checked, ◌>>=◌, ◌>>◌, go_on, pure}
-use Rattle.hir_lower_form.specs.Types.{TypeSteps, called_type_form}
-use Rattle.hir_lower_type.specs.Calls.{There, lower_there, pointed, type_there, written_call}
+use Rattle.hir_lower_builder.specs.Builder.{Builder}
+use Rattle.hir_lower_builder.specs.Calls.{Found, enter_left, entered_at, found_in, track, emitted}
+use Rattle.hir_lower_builder.specs.Lower.{lower_type}
+use Rattle.hir_lower_builder.specs.Lowering.{Checked, ◌>>=◌, ◌>>◌, go_on, pure}
+use Rattle.hir_lower_builder.specs.Types.{TypeSteps, called_type_form}
+use Rattle.hir_lower_type.specs.Calls.{There, lower_there, point_at, type_there, written_call}
 
 -- what is told, and then what stands there
 found_on : (o : Checked (Unit {0})) (b : Builder) (x : Found) (F : Found → TypeSteps) (q : TypeSteps) → F x ≡ q
@@ -38,35 +38,35 @@ fresh env n = record {
   type_ = read_type env (entering env n);
 }
 
-abbrev there : Spot → Pointer → Option Binder → Found → TypeSteps
-there at s binder f = lower_there at binder (type_there f) >>= pointed s
+abbrev there : ResolveCtx → Pointer → Option Binder → Found → TypeSteps
+there at s binder f = lower_there at binder (type_there f) >>= point_at s
 
-called_by : (at : Spot) (s c : Pointer) (binder : Option Binder) (n : ℕ) (x : Expanding) (b : Builder)
+called_by : (at : ResolveCtx) (s c : Pointer) (binder : Option Binder) (n : ℕ) (x : Expanding) (b : Builder)
     → lower_type binder (tree.macro_type s (called c x) (type_in (fresh at.answers n) at.place x)) b
-    ≡ ((told (called c x) >> pure (found_in n at.place x)) >>= there at s binder) b
+    ≡ ((emitted (called c x) >> pure (found_in n at.place x)) >>= there at s binder) b
 unfolding called_type_form
 called_by at s c binder n (unresolved y) b =
-    let t = told (tree.unresolved c y) b in found_on t.0 t.1 None (there at s binder) _ refl
+    let t = emitted (tree.unresolved c y) b in found_on t.0 t.1 None (there at s binder) _ refl
 called_by at s c binder n no_expansion b = found_on (Ok tt) b None (there at s binder) _ refl
 called_by at s c binder n (expanded f None es) b =
-    let t = note (record { call = c; file = f; eager = es }) b in
+    let t = track (record { call = c; file = f; eager = es }) b in
     found_on t.0 t.1 (Some (inside_file f n at.place, None)) (there at s binder) _ refl
 called_by at s c binder n (expanded f (Some (fragment.Expr e)) es) b =
-    let t = note (record { call = c; file = f; eager = es }) b in
+    let t = track (record { call = c; file = f; eager = es }) b in
     found_on t.0 t.1 (Some (inside_file f n at.place, Some (fragment.Expr e))) (there at s binder) _ refl
 called_by at s c binder n (expanded f (Some (fragment.Stmts e)) es) b =
-    let t = note (record { call = c; file = f; eager = es }) b in
+    let t = track (record { call = c; file = f; eager = es }) b in
     found_on t.0 t.1 (Some (inside_file f n at.place, Some (fragment.Stmts e))) (there at s binder) _ refl
 called_by at s c binder n (expanded f (Some (fragment.Pat e)) es) b =
-    let t = note (record { call = c; file = f; eager = es }) b in
+    let t = track (record { call = c; file = f; eager = es }) b in
     found_on t.0 t.1 (Some (inside_file f n at.place, Some (fragment.Pat e))) (there at s binder) _ refl
 called_by at s c binder n (expanded f (Some (fragment.Type_ e)) es) b =
-    let t = note (record { call = c; file = f; eager = es }) b in
+    let t = track (record { call = c; file = f; eager = es }) b in
     found_on t.0 t.1 (Some (inside_file f n at.place, Some (fragment.Type_ e))) (there at s binder) _ refl
 
-pub call_on : (at : Spot) (s : Pointer) (binder : Option Binder) (c : AstMacroCall) (b : Builder)
+pub call_on : (at : ResolveCtx) (s : Pointer) (binder : Option Binder) (c : AstMacroCall) (b : Builder)
     → lower_type binder (written_call at s c) b
-    ≡ (entered_at at kind.Type_ c >>= (λ f. lower_there at binder (type_there f) >>= pointed s)) b
+    ≡ (entered_at at kind.Type_ c >>= (λ f. lower_there at binder (type_there f) >>= point_at s)) b
 unfolding called_type_form
 call_on at s binder c b = by at.place.left
   where
@@ -80,7 +80,7 @@ call_on at s binder c b = by at.place.left
 abbrev nowhere : There
 nowhere = None
 
-abbrev place_or : Place → There → Place
+abbrev place_or : LowerCtx → There → LowerCtx
 place_or q None = q
 place_or q (Some x) = x.0
 
@@ -92,11 +92,11 @@ abbrev found_or : Found → Checked Found → Found
 found_or f (Ok x) = x
 found_or f (Err y) = f
 
-module _ (at : Spot) (c : AstMacroCall) (Inner : Place → AstType_ → Type 0)
+module _ (at : ResolveCtx) (c : AstMacroCall) (Inner : LowerCtx → AstType_ → Type 0)
     (nests : (n : ℕ) (f : HirFileId) (e : AstType_) (es : List Eager) → at.place.left ≡ suc n
     → asked_call at.answers kind.Type_ c at.place ≡ expanded f (Some (fragment.Type_ e)) es → Inner (inside_file f n at.place) e) where
   found_there : (n : ℕ) → at.place.left ≡ suc n → (x : Expanding) → asked_call at.answers kind.Type_ c at.place ≡ x
-      → (q : Place) (e : AstType_) → type_there (found_in n at.place x) ≡ Some (q, e) → Inner q e
+      → (q : LowerCtx) (e : AstType_) → type_there (found_in n at.place x) ≡ Some (q, e) → Inner q e
   found_there n h (unresolved y) k q e is = cc
   found_there n h no_expansion k q e is = cc
   found_there n h (expanded f None es) k q e is = cc
@@ -108,21 +108,21 @@ module _ (at : Spot) (c : AstMacroCall) (Inner : Place → AstType_ → Type 0)
       let same : x ≡ e = ap (type_or e) is in
       rw (← place) (rw (← same) (nests n f x es h k))
 
-  told_there : (n : ℕ) → at.place.left ≡ suc n → (o : Checked (Unit {0})) (b d : Builder) (found : Found)
+  emitted_there : (n : ℕ) → at.place.left ≡ suc n → (o : Checked (Unit {0})) (b d : Builder) (found : Found)
       → go_on o b (λ _. pure (found_in n at.place (asked_call at.answers kind.Type_ c at.place))) ≡ (Ok found, d)
-      → (q : Place) (e : AstType_) → type_there found ≡ Some (q, e) → Inner q e
-  told_there n h (Err y) b d found k q e is = let apart : Err y ≡ Ok found = ap (λ z. z.0) k in cc
-  told_there n h (Ok _) b d found k q e is =
+      → (q : LowerCtx) (e : AstType_) → type_there found ≡ Some (q, e) → Inner q e
+  emitted_there n h (Err y) b d found k q e is = let apart : Err y ≡ Ok found = ap (λ z. z.0) k in cc
+  emitted_there n h (Ok _) b d found k q e is =
       let same : found_in n at.place (asked_call at.answers kind.Type_ c at.place) ≡ found = ap (λ z. found_or found z.0) k in
       found_there n h (asked_call at.answers kind.Type_ c at.place) refl q e (ap type_there same ∙ is)
 
   pub was_entered : (b d : Builder) (found : Found) → entered_at at kind.Type_ c b ≡ (Ok found, d)
-      → (q : Place) (e : AstType_) → type_there found ≡ Some (q, e) → Inner q e
+      → (q : LowerCtx) (e : AstType_) → type_there found ≡ Some (q, e) → Inner q e
   was_entered b d found k q e is = by at.place.left refl k
     where
       by : (l : ℕ) → at.place.left ≡ l → enter_left at.answers kind.Type_ c l at.place b ≡ (Ok found, d) → Inner q e
       by zero h m =
           let apart : nowhere ≡ Some (q, e) = ap (λ z. type_there (found_or found z.0)) m ∙ is in cc
       by (suc n) h m =
-          let t = told (called (call_pointer at.place c) (asked_call at.answers kind.Type_ c at.place)) b in
-          told_there n h t.0 t.1 d found m q e is
+          let t = emitted (called (call_pointer at.place c) (asked_call at.answers kind.Type_ c at.place)) b in
+          emitted_there n h t.0 t.1 d found m q e is

@@ -6,17 +6,17 @@ use Rattle.hir_syntax.specs.declared.pats.PatKind.{out-PatKind}
 use Rattle.hir_syntax.specs.declared.types.Param.{Param as AstParam, out-Param}
 use Rattle.hir_store.specs.declared.name.Name.{Name}
 use Rattle.hir_store.specs.declared.ids.TypeRefId.{TypeRefId}
-use Rattle.hir_env.specs.Spot.{Spot}
-use Rattle.hir_env.specs.Answered.{Parts}
+use Rattle.hir_env.specs.ResolveCtx.{ResolveCtx}
+use Rattle.hir_env.specs.ResolvedTree.{Parts}
 use Rattle.hir_env.specs.TypeLayers.{ParamReading}
 use Rattle.hir_env.specs.Paths.{params_of}
 use Rattle.hir_env.specs.Answering.{name_or_missing}
 use Rattle.hir_env.specs.PatLayers.{PatKindLayer}
 use Rattle.hir_env.specs.Whole.{into, read_param, written}
-use Rattle.hir_lower_form.specs.Lowering.{Lowering, pure}
-use Rattle.hir_lower_form.specs.Lower.{some, type_part}
+use Rattle.hir_lower_builder.specs.Lowering.{Lowering, pure}
+use Rattle.hir_lower_builder.specs.Lower.{some, type_part}
 
-abbrev pub params_at : Spot → List AstParam → Parts
+abbrev pub params_at : ResolveCtx → List AstParam → Parts
 params_at at xs = params_of (read_param at.answers (into at)) xs at.place
 
 -- whether the last is variadic, or else what is said where there is none

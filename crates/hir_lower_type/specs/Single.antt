@@ -3,14 +3,14 @@ use Rattle.std.specs.Prelude.{◌≡◌, [], None, Ok, Err}
 use Rattle.hir_store.specs.Past.{Past, join, nothing, past_arg, past_binding}
 use Rattle.hir_store.specs.Range.{Has}
 use Rattle.hir_store.specs.Stored.{Stored}
-use Rattle.hir_store.specs.declared.fault.StoreFault.TheVariants.{Memory}
+use Rattle.hir_store.specs.declared.error.StoreError.TheVariants.{Memory}
 use Rattle.hir_store.specs.declared.path.GenericArg.TheVariants as arg
-use Rattle.hir_env.specs.Answered as tree
-use Rattle.hir_env.specs.Answered.{Arg}
-use Rattle.hir_lower_form.specs.Lower.{args_part, lower_bounds, lower_constant, present_type, type_part}
-use Rattle.hir_lower_form.specs.Lowering.{Checked, Lowering, ◌>>=◌, pure}
-use Rattle.hir_lower_form.specs.Types.{add_arg, add_binding, binding_form, lower_lifetime, past_lists}
-use Rattle.hir_lower_form.specs.declared.args.ArgLists.{ArgLists}
+use Rattle.hir_env.specs.ResolvedTree as tree
+use Rattle.hir_env.specs.ResolvedTree.{Arg}
+use Rattle.hir_lower_builder.specs.Lower.{args_part, lower_bounds, lower_constant, present_type, type_part}
+use Rattle.hir_lower_builder.specs.Lowering.{Checked, Lowering, ◌>>=◌, pure}
+use Rattle.hir_lower_builder.specs.Types.{add_arg, add_binding, binding_form, lower_lifetime, past_lists}
+use Rattle.hir_lower_builder.specs.declared.args.ArgLists.{ArgLists}
 use Rattle.hir_lower_type.specs.declared.one_arg.OneArg.{OneArg}
 use Rattle.hir_lower_type.specs.declared.one_arg.OneArg.TheVariants as one
 

@@ -1,25 +1,25 @@
-//! Calls of macros as types.
+//! Macro calls as types.
 
 ghost use Rattle.std.specs.Prelude.{◌≡◌};
-ghost use Rattle.hir_lower_form.specs.Calls.{found_of};
-ghost use Rattle.hir_lower_form.specs.Methods.{LowersType};
+ghost use Rattle.hir_lower_builder.specs.Calls.{found_of};
+ghost use Rattle.hir_lower_builder.specs.Methods.{LowersType};
 ghost use Rattle.hir_lower_type.specs.Calls as spec;
 
 use hir_base::node::{AstPtr, InFile};
+use hir_env::ctx::LowerCtx;
 use hir_env::expand::FragmentKind;
-use hir_env::place::Place;
-use hir_lower_form::builder::BodyBuilder;
-use hir_lower_form::calls::{Entered, enter};
-use hir_lower_form::parts::{LowerPieces, Lowerer};
-use hir_lower_form::storing::Storing;
-use hir_store::fault::StoreFault;
+use hir_lower_builder::builder::BodyBuilder;
+use hir_lower_builder::calls::{Entered, enter};
+use hir_lower_builder::parts::{LowerExprs, Lowerer};
+use hir_lower_builder::store_sink::StoreSink;
+use hir_store::error::StoreError;
 use hir_store::ids::TypeRefId;
 use hir_store::name::Name;
 use hir_syntax::Seq;
 use hir_syntax::ast::{self, Fragment, MacroCall};
 
 /// The type that a call stands for, and where it is read.
-fn type_of<'a>(entered: Entered<'a>) -> Option<(Place, &'a ast::Type_)>
+fn type_of<'a>(entered: Entered<'a>) -> Option<(LowerCtx, &'a ast::Type_)>
     ensures { spec.type_lent result ≡ spec.type_there (found_of entered.entry) }
 {
     match entered {
@@ -32,15 +32,15 @@ fn type_of<'a>(entered: Entered<'a>) -> Option<(Place, &'a ast::Type_)>
 /// stands for no type. Its node leads there.
 #[tactic(auto, using(crate::proofs::CallLemmas::call_on))]
 #[inline(never)]
-pub(crate) fn call_form<I: Storing, P: LowerPieces<I>>(
+pub(crate) fn call_form<I: StoreSink, P: LowerExprs<I>>(
     lowerer: &Lowerer<P>,
     state: &mut BodyBuilder<I>,
     at: InFile<AstPtr>,
     binder: &Option<Seq<Name>>,
     call: &MacroCall,
-) -> Result<TypeRefId, StoreFault>
-    requires { (P.can lowerer.now.parts).type_call (P.spot lowerer.now.parts).place call.now }
-    ensures { LowersType binder.now (spec.written_call (P.spot lowerer.now.parts) at call.now) state.old result state.new }
+) -> Result<TypeRefId, StoreError>
+    requires { (P.can lowerer.now.parts).type_call (P.rctx lowerer.now.parts).place call.now }
+    ensures { LowersType binder.now (spec.written_call (P.rctx lowerer.now.parts) at call.now) state.old result state.new }
 {
     let entered = enter(lowerer, state, FragmentKind::Type_, call)?;
     let id = match type_of(entered) {

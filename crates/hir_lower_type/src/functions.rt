@@ -4,25 +4,25 @@ ghost use Rattle.std.specs.Prelude.{◌≡◌, Bool, IfOk, List, Option, false};
 ghost use Rattle.hir_syntax.specs.declared.types.Param.{out-Param};
 ghost use Rattle.hir_store.specs.Range.{HasType, HasTypeOption};
 ghost use Rattle.hir_store.specs.declared.name.Name.{Name as StoredName};
-ghost use Rattle.hir_env.specs.Answered as tree;
-ghost use Rattle.hir_env.specs.Answered.{OptionType, Parts};
+ghost use Rattle.hir_env.specs.ResolvedTree as tree;
+ghost use Rattle.hir_env.specs.ResolvedTree.{OptionType, Parts};
 ghost use Rattle.hir_env.specs.Paths as of;
-ghost use Rattle.hir_env.specs.Spot.{Spot};
-ghost use Rattle.hir_env.specs.declared.place.Place.{Place as AtPlace};
-ghost use Rattle.hir_env.specs.Whole.{answer_part, answered_param, names_part, param_level, params_part, varargs_part};
-ghost use Rattle.hir_lower_form.specs.Lowering.{Lowers};
-ghost use Rattle.hir_lower_form.specs.Lower as spec;
-ghost use Rattle.hir_lower_form.specs.Methods.{LowersParts, LowersType};
-ghost use Rattle.hir_lower_form.specs.Nests.{Claims, Each, IfPresent, KidsParam, KidsRet};
+ghost use Rattle.hir_env.specs.ResolveCtx.{ResolveCtx};
+ghost use Rattle.hir_env.specs.declared.ctx.LowerCtx.{LowerCtx as AtCtx};
+ghost use Rattle.hir_env.specs.Whole.{answer_part, resolved_param, names_part, param_level, params_part, varargs_part};
+ghost use Rattle.hir_lower_builder.specs.Lowering.{Lowers};
+ghost use Rattle.hir_lower_builder.specs.Lower as spec;
+ghost use Rattle.hir_lower_builder.specs.Methods.{LowersParts, LowersType};
+ghost use Rattle.hir_lower_builder.specs.Nests.{Claims, Each, IfPresent, KidsParam, KidsRet};
 ghost use Rattle.hir_lower_type.specs.Abis.{abi_later};
 ghost use Rattle.hir_lower_type.specs.Params.{lower_param, param_name, param_names, params_at, variadic_last};
 
 use hir_base::node::{AstPtr, InFile};
-use hir_lower_form::builder::BodyBuilder;
-use hir_lower_form::names::name_of;
-use hir_lower_form::parts::{LowerParts, LowerPieces, Lowerer};
-use hir_lower_form::storing::Storing;
-use hir_store::fault::StoreFault;
+use hir_lower_builder::builder::BodyBuilder;
+use hir_lower_builder::names::name_of;
+use hir_lower_builder::parts::{LowerExprs, LowerParts, Lowerer};
+use hir_lower_builder::store_sink::StoreSink;
+use hir_store::error::StoreError;
 use hir_store::ids::TypeRefId;
 use hir_store::lists::push_type;
 use hir_store::name::{Name, copy_names};
@@ -89,13 +89,13 @@ fn abi(written: &Option<Text>) -> ExternAbi
 }
 
 #[inline(never)]
-fn param_form<I: Storing, P: LowerPieces<I>>(
+fn param_form<I: StoreSink, P: LowerExprs<I>>(
     lowerer: &Lowerer<P>,
     state: &mut BodyBuilder<I>,
     node: &ast::Param,
-) -> Result<Option<TypeRefId>, StoreFault>
-    requires { KidsParam (P.can lowerer.now.parts) (P.spot lowerer.now.parts).place (out-Param node.now) }
-    ensures { Lowers HasTypeOption (lower_param (param_level (P.spot lowerer.now.parts) node.now)) state.old result state.new }
+) -> Result<Option<TypeRefId>, StoreError>
+    requires { KidsParam (P.can lowerer.now.parts) (P.rctx lowerer.now.parts).place (out-Param node.now) }
+    ensures { Lowers HasTypeOption (lower_param (param_level (P.rctx lowerer.now.parts) node.now)) state.old result state.new }
 {
     if node.variadic {
         return Ok(None);
@@ -105,26 +105,26 @@ fn param_form<I: Storing, P: LowerPieces<I>>(
 }
 
 /// The type of a parameter, none where it is variadic.
-fn param<I: Storing, P: LowerPieces<I>>(
+fn param<I: StoreSink, P: LowerExprs<I>>(
     lowerer: &Lowerer<P>,
     state: &mut BodyBuilder<I>,
     node: &ast::Param,
-) -> Result<Option<TypeRefId>, StoreFault>
-    requires { KidsParam (P.can lowerer.now.parts) (P.spot lowerer.now.parts).place (out-Param node.now) }
-    ensures { Lowers HasTypeOption (lower_param (answered_param (P.spot lowerer.now.parts) node.now)) state.old result state.new }
+) -> Result<Option<TypeRefId>, StoreError>
+    requires { KidsParam (P.can lowerer.now.parts) (P.rctx lowerer.now.parts).place (out-Param node.now) }
+    ensures { Lowers HasTypeOption (lower_param (resolved_param (P.rctx lowerer.now.parts) node.now)) state.old result state.new }
 {
     param_form(lowerer, state, node)
 }
 
 /// The types of the parameters that aren't variadic.
 #[tactic(auto, using(crate::proofs::Params::params_more))]
-fn params<I: Storing, P: LowerPieces<I>>(
+fn params<I: StoreSink, P: LowerExprs<I>>(
     lowerer: &Lowerer<P>,
     state: &mut BodyBuilder<I>,
     mut left: &[ast::Param],
-) -> Result<Seq<TypeRefId>, StoreFault>
-    requires { Each (λ x. KidsParam (P.can lowerer.now.parts) (P.spot lowerer.now.parts).place (out-Param x)) left.now }
-    ensures { LowersParts (params_at (P.spot lowerer.now.parts) left.entry.now) state.old result state.new }
+) -> Result<Seq<TypeRefId>, StoreError>
+    requires { Each (λ x. KidsParam (P.can lowerer.now.parts) (P.rctx lowerer.now.parts).place (out-Param x)) left.now }
+    ensures { LowersParts (params_at (P.rctx lowerer.now.parts) left.entry.now) state.old result state.new }
 {
     let mut done = Seq::new(lowerer.alloc);
     while let [one, rest @ ..] = left {
@@ -187,30 +187,30 @@ fn binder_copy(binder: &Option<Seq<Name>>) -> Result<Option<Seq<Name>>, AllocErr
 
 /// The parameters of a function pointer, that are there or aren't. A form that hands them on has them as a type parameter.
 pub trait ParamsPart {
-    ghost can: { Claims → AtPlace → Self → Type 0 };
+    ghost can: { Claims → AtCtx → Self → Type 0 };
 
-    ghost read: { Spot → Self → Parts };
+    ghost read: { ResolveCtx → Self → Parts };
 
-    ghost all_names: { Spot → Self → List (Option StoredName) };
+    ghost all_names: { ResolveCtx → Self → List (Option StoredName) };
 
-    ghost varargs: { Spot → Self → Bool };
+    ghost varargs: { ResolveCtx → Self → Bool };
 
     /// The types of those that aren't variadic.
-    fn types<I: Storing, P: LowerPieces<I>>(
+    fn types<I: StoreSink, P: LowerExprs<I>>(
         &self,
         lowerer: &Lowerer<P>,
         state: &mut BodyBuilder<I>,
-    ) -> Result<Seq<TypeRefId>, StoreFault>
-        requires { can (P.can lowerer.now.parts) (P.spot lowerer.now.parts).place self.now }
-        ensures { LowersParts (read (P.spot lowerer.now.parts) self.now) state.old result state.new };
+    ) -> Result<Seq<TypeRefId>, StoreError>
+        requires { can (P.can lowerer.now.parts) (P.rctx lowerer.now.parts).place self.now }
+        ensures { LowersParts (read (P.rctx lowerer.now.parts) self.now) state.old result state.new };
 
     /// The names of those that aren't variadic.
     fn names<P: LowerParts>(&self, lowerer: &Lowerer<P>) -> Result<Seq<Option<Name>>, AllocError>
-        ensures { IfOk result (λ names. names ≡ all_names (P.spot lowerer.now.parts) self.now) };
+        ensures { IfOk result (λ names. names ≡ all_names (P.rctx lowerer.now.parts) self.now) };
 
     /// Whether the last of them is variadic.
     fn is_varargs<P: LowerParts>(&self, lowerer: &Lowerer<P>) -> bool
-        ensures { result ≡ varargs (P.spot lowerer.now.parts) self.now };
+        ensures { result ≡ varargs (P.rctx lowerer.now.parts) self.now };
 }
 
 impl ParamsPart for Option<Seq<ast::Param>> {
@@ -222,11 +222,11 @@ impl ParamsPart for Option<Seq<ast::Param>> {
 
     ghost varargs = { varargs_part };
 
-    fn types<I: Storing, P: LowerPieces<I>>(
+    fn types<I: StoreSink, P: LowerExprs<I>>(
         &self,
         lowerer: &Lowerer<P>,
         state: &mut BodyBuilder<I>,
-    ) -> Result<Seq<TypeRefId>, StoreFault> {
+    ) -> Result<Seq<TypeRefId>, StoreError> {
         match self {
             None => Ok(Seq::new(lowerer.alloc)),
             Some(all) => params(lowerer, state, all.as_slice()),
@@ -253,18 +253,18 @@ impl ParamsPart for Option<Seq<ast::Param>> {
 
 /// What a function pointer returns, where that is written.
 pub trait AnswerPart {
-    ghost can: { Claims → AtPlace → Self → Type 0 };
+    ghost can: { Claims → AtCtx → Self → Type 0 };
 
-    ghost read: { Spot → Self → OptionType };
+    ghost read: { ResolveCtx → Self → OptionType };
 
     /// The type that it returns: `()` where no type is written.
-    fn answer<I: Storing, P: LowerPieces<I>>(
+    fn answer<I: StoreSink, P: LowerExprs<I>>(
         &self,
         lowerer: &Lowerer<P>,
         state: &mut BodyBuilder<I>,
-    ) -> Result<TypeRefId, StoreFault>
-        requires { can (P.can lowerer.now.parts) (P.spot lowerer.now.parts).place self.now }
-        ensures { Lowers HasType (spec.type_or_unit (read (P.spot lowerer.now.parts) self.now)) state.old result state.new };
+    ) -> Result<TypeRefId, StoreError>
+        requires { can (P.can lowerer.now.parts) (P.rctx lowerer.now.parts).place self.now }
+        ensures { Lowers HasType (spec.type_or_unit (read (P.rctx lowerer.now.parts) self.now)) state.old result state.new };
 }
 
 impl AnswerPart for Option<ast::RetType> {
@@ -272,11 +272,11 @@ impl AnswerPart for Option<ast::RetType> {
 
     ghost read = { answer_part };
 
-    fn answer<I: Storing, P: LowerPieces<I>>(
+    fn answer<I: StoreSink, P: LowerExprs<I>>(
         &self,
         lowerer: &Lowerer<P>,
         state: &mut BodyBuilder<I>,
-    ) -> Result<TypeRefId, StoreFault> {
+    ) -> Result<TypeRefId, StoreError> {
         match self {
             None | Some(None) => state.unit_type(lowerer.alloc),
             Some(Some(ty)) => {
@@ -288,9 +288,9 @@ impl AnswerPart for Option<ast::RetType> {
 }
 
 /// What it returns is lowered first.
-#[tactic(auto, unfolding(hir_lower_form::specs::Types::fn_type_form))]
+#[tactic(auto, unfolding(hir_lower_builder::specs::Types::fn_type_form))]
 #[inline(never)]
-pub(crate) fn fn_form<I: Storing, P: LowerPieces<I>, L: ParamsPart, R: AnswerPart>(
+pub(crate) fn fn_form<I: StoreSink, P: LowerExprs<I>, L: ParamsPart, R: AnswerPart>(
     lowerer: &Lowerer<P>,
     state: &mut BodyBuilder<I>,
     at: InFile<AstPtr>,
@@ -299,12 +299,12 @@ pub(crate) fn fn_form<I: Storing, P: LowerPieces<I>, L: ParamsPart, R: AnswerPar
     written: &Option<Text>,
     all: &L,
     ret: &R,
-) -> Result<TypeRefId, StoreFault>
-    requires params { L.can (P.can lowerer.now.parts) (P.spot lowerer.now.parts).place all.now }
-    requires ret { R.can (P.can lowerer.now.parts) (P.spot lowerer.now.parts).place ret.now }
-    ensures { let spot = P.spot lowerer.now.parts in
-        let head = of.fn_head is_unsafe written.now (L.varargs spot all.now) (L.all_names spot all.now) in
-        LowersType binder.now (tree.fn_type at head (L.read spot all.now) (R.read spot ret.now)) state.old result state.new }
+) -> Result<TypeRefId, StoreError>
+    requires params { L.can (P.can lowerer.now.parts) (P.rctx lowerer.now.parts).place all.now }
+    requires ret { R.can (P.can lowerer.now.parts) (P.rctx lowerer.now.parts).place ret.now }
+    ensures { let rctx = P.rctx lowerer.now.parts in
+        let head = of.fn_head is_unsafe written.now (L.varargs rctx all.now) (L.all_names rctx all.now) in
+        LowersType binder.now (tree.fn_type at head (L.read rctx all.now) (R.read rctx ret.now)) state.old result state.new }
 {
     let output = ret.answer(lowerer, state)?;
     let mut params = all.types(lowerer, state)?;

@@ -3,14 +3,14 @@
 ghost use Rattle.std.specs.Prelude.{◌≡◌, IfOk, option_map};
 ghost use Rattle.hir_store.specs.Range.{HasLifetime, HasLifetimeOption};
 ghost use Rattle.hir_env.specs.Paths as of;
-ghost use Rattle.hir_lower_form.specs.Lowering.{Lowers};
-ghost use Rattle.hir_lower_form.specs.Types.{lower_lifetime, lower_lifetime_option};
+ghost use Rattle.hir_lower_builder.specs.Lowering.{Lowers};
+ghost use Rattle.hir_lower_builder.specs.Types.{lower_lifetime, lower_lifetime_option};
 
-use hir_env::place::Place;
-use hir_lower_form::builder::BodyBuilder;
-use hir_lower_form::parts::pointer_in;
-use hir_lower_form::storing::Storing;
-use hir_store::fault::StoreFault;
+use hir_env::ctx::LowerCtx;
+use hir_lower_builder::builder::BodyBuilder;
+use hir_lower_builder::parts::pointer_in;
+use hir_lower_builder::store_sink::StoreSink;
+use hir_store::error::StoreError;
 use hir_store::ids::LifetimeRefId;
 use hir_store::name::Name;
 use hir_store::type_ref::LifetimeRef;
@@ -35,27 +35,27 @@ pub fn lifetime_ref(written: &ast::Lifetime) -> Result<LifetimeRef, AllocError>
 }
 
 /// A lifetime of the file of this place, which is noted where lifetimes count there.
-#[tactic(auto, unfolding(hir_lower_form::specs::Types::lower_lifetime))]
+#[tactic(auto, unfolding(hir_lower_builder::specs::Types::lower_lifetime))]
 #[inline(never)]
-pub fn lifetime<I: Storing>(
+pub fn lifetime<I: StoreSink>(
     state: &mut BodyBuilder<I>,
-    place: Place,
+    place: LowerCtx,
     written: &ast::Lifetime,
-) -> Result<LifetimeRefId, StoreFault>
+) -> Result<LifetimeRefId, StoreError>
     ensures { Lowers HasLifetime (lower_lifetime (of.lifetime_of place written.now)) state.old result state.new }
 {
     let at = pointer_in(place, written.id, written.range);
     let lifetime = lifetime_ref(written)?;
-    state.note_lifetime(place.lifetimes, &lifetime)?;
+    state.track_lifetime(place.lifetimes, &lifetime)?;
     state.alloc_lifetime(lifetime, Some(at))
 }
 
 /// The lifetime, where one is written.
-pub fn lifetime_if_present<I: Storing>(
+pub fn lifetime_if_present<I: StoreSink>(
     state: &mut BodyBuilder<I>,
-    place: Place,
+    place: LowerCtx,
     written: &Option<ast::Lifetime>,
-) -> Result<Option<LifetimeRefId>, StoreFault>
+) -> Result<Option<LifetimeRefId>, StoreError>
     ensures { Lowers HasLifetimeOption (lower_lifetime_option (option_map (of.lifetime_of place) written.now)) state.old result state.new }
 {
     match written {

@@ -2,11 +2,11 @@
 
 ghost use Rattle.std.specs.Prelude.{◌≡◌, IfOk};
 ghost use Rattle.hir_store.specs.Past.{join};
-ghost use Rattle.hir_lower_form.specs.Types.{past_lists};
+ghost use Rattle.hir_lower_builder.specs.Types.{past_lists};
 ghost use Rattle.hir_lower_type.specs.Single.{IsBehind, past_one, with_one};
 
-use hir_lower_form::args::ArgLists;
-use hir_store::fault::StoreFault;
+use hir_lower_builder::args::ArgLists;
+use hir_store::error::StoreError;
 use hir_store::path::{AssociatedTypeBinding, GenericArg};
 use std::alloc::AllocError;
 
@@ -36,9 +36,9 @@ impl OneArg {
 /// The lists with what was found, behind the others, unless there is a fault.
 #[inline(never)]
 pub fn behind_others(
-    found: Result<OneArg, StoreFault>,
+    found: Result<OneArg, StoreError>,
     lists: ArgLists,
-) -> Result<ArgLists, StoreFault>
+) -> Result<ArgLists, StoreError>
     ensures { IsBehind lists found result }
 {
     match found {

@@ -5,20 +5,20 @@ ghost use Rattle.std.specs.Prelude.{Option};
 ghost use Rattle.hir_syntax.specs.declared.ast.Expr.{Expr as AstExpr};
 ghost use Rattle.hir_syntax.specs.declared.pats.Pat.{Pat as AstPat};
 ghost use Rattle.hir_syntax.specs.declared.types.Type_.{Type_ as AstType};
-ghost use Rattle.hir_env.specs.Answered.{Constant, OptionPat, OptionType, Parts};
+ghost use Rattle.hir_env.specs.ResolvedTree.{Constant, OptionPat, OptionType, Parts};
 ghost use Rattle.hir_env.specs.Paths as of;
-ghost use Rattle.hir_env.specs.Spot.{Spot};
+ghost use Rattle.hir_env.specs.ResolveCtx.{ResolveCtx};
 ghost use Rattle.hir_env.specs.TypePats.{type_pat_or_none};
 ghost use Rattle.hir_env.specs.Whole.{constant_part, pat_part, type_part, types_part};
-ghost use Rattle.hir_lower_form.specs.Methods.{LowersConstant, LowersParts, LowersTypeOpt, LowersTypePat, at_place};
-ghost use Rattle.hir_lower_form.specs.Nests.{Each, IfPresent, const_expr};
+ghost use Rattle.hir_lower_builder.specs.Methods.{LowersConstant, LowersParts, LowersTypeOpt, LowersTypePat, at_place};
+ghost use Rattle.hir_lower_builder.specs.Nests.{Each, IfPresent, const_expr};
 
-use hir_env::place::inside_constant;
-use hir_lower_form::builder::BodyBuilder;
-use hir_lower_form::parts::{LowerPieces, Lowerer};
-use hir_lower_form::storing::Storing;
-use hir_lower_type_pat::type_pats::lower_type_pat;
-use hir_store::fault::StoreFault;
+use crate::type_pats::lower_type_pat;
+use hir_env::ctx::inside_constant;
+use hir_lower_builder::builder::BodyBuilder;
+use hir_lower_builder::parts::{LowerExprs, Lowerer};
+use hir_lower_builder::store_sink::StoreSink;
+use hir_store::error::StoreError;
 use hir_store::ids::{PatId, TypeRefId};
 use hir_store::lists::push_type;
 use hir_store::name::Name;
@@ -29,17 +29,17 @@ use hir_syntax::{Boxed, Seq, ast};
 pub trait TypePart {
     ghost can: { (AstType → Type 0) → Self → Type 0 };
 
-    ghost read: { Spot → Self → OptionType };
+    ghost read: { ResolveCtx → Self → OptionType };
 
     /// The type, with the names of the `for<..>` directly around it, and an error where it is absent.
-    fn lower<I: Storing, P: LowerPieces<I>>(
+    fn lower<I: StoreSink, P: LowerExprs<I>>(
         &self,
         lowerer: &Lowerer<P>,
         state: &mut BodyBuilder<I>,
         binder: &Option<Seq<Name>>,
-    ) -> Result<TypeRefId, StoreFault>
-        requires { can ((P.can lowerer.now.parts).type_ (P.spot lowerer.now.parts).place) self.now }
-        ensures { LowersTypeOpt binder.now (read (P.spot lowerer.now.parts) self.now) state.old result state.new };
+    ) -> Result<TypeRefId, StoreError>
+        requires { can ((P.can lowerer.now.parts).type_ (P.rctx lowerer.now.parts).place) self.now }
+        ensures { LowersTypeOpt binder.now (read (P.rctx lowerer.now.parts) self.now) state.old result state.new };
 }
 
 impl TypePart for Option<Boxed<ast::Type_>> {
@@ -47,12 +47,12 @@ impl TypePart for Option<Boxed<ast::Type_>> {
 
     ghost read = { type_part };
 
-    fn lower<I: Storing, P: LowerPieces<I>>(
+    fn lower<I: StoreSink, P: LowerExprs<I>>(
         &self,
         lowerer: &Lowerer<P>,
         state: &mut BodyBuilder<I>,
         binder: &Option<Seq<Name>>,
-    ) -> Result<TypeRefId, StoreFault> {
+    ) -> Result<TypeRefId, StoreError> {
         lowerer.type_or_error(state, lowerer.parts.place(), binder, self)
     }
 }
@@ -61,15 +61,15 @@ impl TypePart for Option<Boxed<ast::Type_>> {
 pub trait TypesPart {
     ghost can: { (AstType → Type 0) → Self → Type 0 };
 
-    ghost read: { Spot → Self → Parts };
+    ghost read: { ResolveCtx → Self → Parts };
 
-    fn lower_each<I: Storing, P: LowerPieces<I>>(
+    fn lower_each<I: StoreSink, P: LowerExprs<I>>(
         &self,
         lowerer: &Lowerer<P>,
         state: &mut BodyBuilder<I>,
-    ) -> Result<Seq<TypeRefId>, StoreFault>
-        requires { can ((P.can lowerer.now.parts).type_ (P.spot lowerer.now.parts).place) self.now }
-        ensures { LowersParts (read (P.spot lowerer.now.parts) self.now) state.old result state.new };
+    ) -> Result<Seq<TypeRefId>, StoreError>
+        requires { can ((P.can lowerer.now.parts).type_ (P.rctx lowerer.now.parts).place) self.now }
+        ensures { LowersParts (read (P.rctx lowerer.now.parts) self.now) state.old result state.new };
 }
 
 impl TypesPart for Seq<ast::Type_> {
@@ -77,11 +77,11 @@ impl TypesPart for Seq<ast::Type_> {
 
     ghost read = { types_part };
 
-    fn lower_each<I: Storing, P: LowerPieces<I>>(
+    fn lower_each<I: StoreSink, P: LowerExprs<I>>(
         &self,
         lowerer: &Lowerer<P>,
         state: &mut BodyBuilder<I>,
-    ) -> Result<Seq<TypeRefId>, StoreFault> {
+    ) -> Result<Seq<TypeRefId>, StoreError> {
         let mut done = Seq::new(lowerer.alloc);
         let mut left = self.as_slice();
         while let [one, rest @ ..] = left {
@@ -98,16 +98,16 @@ impl TypesPart for Seq<ast::Type_> {
 pub trait ConstPart {
     ghost can: { (Option AstExpr → Type 0) → Self → Type 0 };
 
-    ghost read: { Spot → Self → Constant };
+    ghost read: { ResolveCtx → Self → Constant };
 
     /// The constant, missing where it is absent.
-    fn lower<I: Storing, P: LowerPieces<I>>(
+    fn lower<I: StoreSink, P: LowerExprs<I>>(
         &self,
         lowerer: &Lowerer<P>,
         state: &mut BodyBuilder<I>,
-    ) -> Result<ConstRef, StoreFault>
-        requires { can ((P.can lowerer.now.parts).constant (P.spot lowerer.now.parts).place) self.now }
-        ensures { LowersConstant (read (P.spot lowerer.now.parts) self.now) state.old result state.new };
+    ) -> Result<ConstRef, StoreError>
+        requires { can ((P.can lowerer.now.parts).constant (P.rctx lowerer.now.parts).place) self.now }
+        ensures { LowersConstant (read (P.rctx lowerer.now.parts) self.now) state.old result state.new };
 }
 
 impl ConstPart for Option<ast::ConstArg> {
@@ -115,11 +115,11 @@ impl ConstPart for Option<ast::ConstArg> {
 
     ghost read = { constant_part };
 
-    fn lower<I: Storing, P: LowerPieces<I>>(
+    fn lower<I: StoreSink, P: LowerExprs<I>>(
         &self,
         lowerer: &Lowerer<P>,
         state: &mut BodyBuilder<I>,
-    ) -> Result<ConstRef, StoreFault> {
+    ) -> Result<ConstRef, StoreError> {
         lowerer.constant_or_missing(state, lowerer.parts.place(), self)
     }
 }
@@ -128,17 +128,17 @@ impl ConstPart for Option<ast::ConstArg> {
 pub trait TypePatPart {
     ghost can: { (AstPat → Type 0) → Self → Type 0 };
 
-    ghost read: { Spot → Self → OptionPat };
+    ghost read: { ResolveCtx → Self → OptionPat };
 
     /// The pattern, the ends of whose ranges are constants.
-    fn lower_inside<I: Storing, P: LowerPieces<I>>(
+    fn lower_inside<I: StoreSink, P: LowerExprs<I>>(
         &self,
         lowerer: &Lowerer<P>,
         state: &mut BodyBuilder<I>,
-    ) -> Result<PatId, StoreFault>
-        requires { can ((P.can lowerer.now.parts).pat (of.inside_constant (P.spot lowerer.now.parts).place)) self.now }
-        ensures { let spot = P.spot lowerer.now.parts in
-            let inner = at_place spot (of.inside_constant spot.place) in
+    ) -> Result<PatId, StoreError>
+        requires { can ((P.can lowerer.now.parts).pat (of.inside_constant (P.rctx lowerer.now.parts).place)) self.now }
+        ensures { let rctx = P.rctx lowerer.now.parts in
+            let inner = at_place rctx (of.inside_constant rctx.place) in
             LowersTypePat (type_pat_or_none inner.answers.lang_items (read inner self.now)) state.old result state.new };
 }
 
@@ -147,11 +147,11 @@ impl TypePatPart for Option<Boxed<ast::Pat>> {
 
     ghost read = { pat_part };
 
-    fn lower_inside<I: Storing, P: LowerPieces<I>>(
+    fn lower_inside<I: StoreSink, P: LowerExprs<I>>(
         &self,
         lowerer: &Lowerer<P>,
         state: &mut BodyBuilder<I>,
-    ) -> Result<PatId, StoreFault> {
+    ) -> Result<PatId, StoreError> {
         lower_type_pat(lowerer, state, inside_constant(lowerer.parts.place()), self)
     }
 }

@@ -3,7 +3,7 @@
 ghost use Rattle.std.specs.Prelude.{◌≡◌};
 ghost use Rattle.hir_env.specs.Paths as spec;
 
-use hir_env::place::{LifetimeScope, Place};
+use hir_env::ctx::{LifetimeScope, LowerCtx};
 
 /// Where a lifetime counts in an `impl`.
 fn in_impl_scope(scope: LifetimeScope) -> LifetimeScope
@@ -18,20 +18,20 @@ fn in_impl_scope(scope: LifetimeScope) -> LifetimeScope
     }
 }
 
-pub(crate) fn inside_impl(place: Place) -> Place
+pub(crate) fn inside_impl(place: LowerCtx) -> LowerCtx
     ensures { result ≡ spec.inside_impl place }
 {
-    Place {
+    LowerCtx {
         in_impl: true,
         lifetimes: in_impl_scope(place.lifetimes),
         ..place
     }
 }
 
-pub(crate) fn outside_impl(place: Place) -> Place
+pub(crate) fn outside_impl(place: LowerCtx) -> LowerCtx
     ensures { result ≡ spec.outside_impl place }
 {
-    Place {
+    LowerCtx {
         in_impl: false,
         ..place
     }

@@ -2,8 +2,8 @@
 
 ghost use Rattle.hir_syntax.specs.declared.types.TypeKind.{out-TypeKind};
 ghost use Rattle.hir_env.specs.Whole.{type_level};
-ghost use Rattle.hir_lower_form.specs.Methods.{LowersType};
-ghost use Rattle.hir_lower_form.specs.Nests.{KidsType};
+ghost use Rattle.hir_lower_builder.specs.Methods.{LowersType};
+ghost use Rattle.hir_lower_builder.specs.Nests.{KidsType};
 
 use crate::calls::call_form;
 use crate::functions::fn_form;
@@ -11,23 +11,23 @@ use crate::simple::{
     array_form, dyn_form, error_form, for_form, impl_form, infer_form, never_form, path_form,
     pattern_form, pointer_form, ref_form, slice_form, tuple_form,
 };
-use hir_lower_form::builder::BodyBuilder;
-use hir_lower_form::parts::{LowerPieces, Lowerer};
-use hir_lower_form::storing::Storing;
-use hir_store::fault::StoreFault;
+use hir_lower_builder::builder::BodyBuilder;
+use hir_lower_builder::parts::{LowerExprs, Lowerer};
+use hir_lower_builder::store_sink::StoreSink;
+use hir_store::error::StoreError;
 use hir_store::ids::TypeRefId;
 use hir_store::name::Name;
 use hir_syntax::{Seq, ast};
 
 /// A type that is read here, with the names of the `for<..>` directly around it, where one stands there.
-pub fn type_node<I: Storing, P: LowerPieces<I>>(
+pub fn type_node<I: StoreSink, P: LowerExprs<I>>(
     lowerer: &Lowerer<P>,
     state: &mut BodyBuilder<I>,
     binder: &Option<Seq<Name>>,
     node: &ast::Type_,
-) -> Result<TypeRefId, StoreFault>
-    requires { KidsType (P.can lowerer.now.parts) (P.spot lowerer.now.parts).place (out-TypeKind node.now.kind) }
-    ensures { LowersType binder.now (type_level (P.spot lowerer.now.parts) node.now) state.old result state.new }
+) -> Result<TypeRefId, StoreError>
+    requires { KidsType (P.can lowerer.now.parts) (P.rctx lowerer.now.parts).place (out-TypeKind node.now.kind) }
+    ensures { LowersType binder.now (type_level (P.rctx lowerer.now.parts) node.now) state.old result state.new }
 {
     let at = lowerer.pointer(node.id, node.range);
     match &node.kind {

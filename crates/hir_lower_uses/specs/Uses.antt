@@ -1,7 +1,7 @@
 -- What the uses find in a store and its source map.
 use Rattle.std.specs.Prelude.{◌≡◌, ◌<◌, ℕ, List, Contains, Bool, true, false, Option, Some, None, slice_get, option_and_then}
 use Rattle.hir_store.specs.Bindings.{owner_at}
-use Rattle.hir_store.specs.Pointers.{Pointer, found, flattened}
+use Rattle.hir_store.specs.Pointers.{Pointer, value_at, flat_option}
 use Rattle.hir_store.specs.Stored.{Store, SourceMap}
 use Rattle.hir_store.specs.declared.hir.Expr.{Expr}
 use Rattle.hir_store.specs.declared.hir.Expr.TheVariants as hir
@@ -26,17 +26,17 @@ cast_to store _ = None
 
 abbrev pub cast_at : Store → SourceMap → Pointer → Option TypeRef
 cast_at store source_map node =
-    option_and_then (λ id. option_and_then (cast_to store) (slice_get store.exprs id.0)) (found source_map.expr_map node)
+    option_and_then (λ id. option_and_then (cast_to store) (slice_get store.exprs id.0)) (value_at source_map.expr_map node)
 
 -- the node of the expression, or, where there is none, of the pattern
 abbrev pub node_of : SourceMap → Option ExprId → Option PatId → Option Pointer
-node_of source_map (Some id) _ = flattened (slice_get source_map.expr_sources id.0)
-node_of source_map None (Some id) = flattened (slice_get source_map.pat_sources id.0)
+node_of source_map (Some id) _ = flat_option (slice_get source_map.expr_sources id.0)
+node_of source_map None (Some id) = flat_option (slice_get source_map.pat_sources id.0)
 node_of source_map None None = None
 
 -- the node of the expression to which this node leads, or, where it leads to none, of the pattern that is assigned to
 abbrev pub there_and_back : SourceMap → Pointer → Option Pointer
-there_and_back source_map node = node_of source_map (found source_map.expr_map node) (found source_map.target_map node)
+there_and_back source_map node = node_of source_map (value_at source_map.expr_map node) (value_at source_map.target_map node)
 
 abbrev pub IsOwned : Store → ExprId → BindingId → Type 0
 IsOwned store closure b = owner_at store.binding_owners b.0 ≡ Some closure

@@ -14,7 +14,7 @@ pub fn alias_names<E: LowerEnv>(env: &E, id: TypeAliasId, place: u32) -> bool
 {
     match env.alias(id) {
         None => false,
-        Some(alias) => alias.constrained(place),
+        Some(alias) => alias.is_constrained(place),
     }
 }
 

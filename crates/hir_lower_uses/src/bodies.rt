@@ -6,9 +6,9 @@ ghost use Rattle.hir_store.specs.Range.{InRange};
 use crate::calls::count_calls;
 use hir_base::node::{AstPtr, HirFileId};
 use hir_env::env::LowerEnv;
-use hir_items::ast as items;
 use hir_lower::{Body, BodySourceMap, LowerError, lower_body};
 use hir_store::ids::{DefWithBodyId, FunctionId, ModuleId};
+use hir_syntax::items;
 use std::alloc::Global;
 
 /// The body of a function that stands in module 0 and file 0.

@@ -4,6 +4,7 @@
 pub mod aliases;
 pub mod bodies;
 pub mod calls;
+pub mod kept;
 pub mod nodes;
 pub mod owners;
 pub mod plain;

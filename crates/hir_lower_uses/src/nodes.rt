@@ -26,7 +26,7 @@ pub fn type_of_cast<'a>(
 }
 
 /// The node that the expression came from which the written one at this node became: of parentheses the one in them. Where it became a
-/// pattern, since it is assigned to, it is the node of that: of a call of a macro the one in what the call stands for.
+/// pattern, since it is assigned to, it is the node of that: of a macro call the one in what the call stands for.
 pub fn there_and_back(
     source_map: &ExpressionStoreSourceMap,
     node: InFile<AstPtr>,

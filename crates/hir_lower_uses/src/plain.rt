@@ -5,7 +5,7 @@ use hir_base::node::{InFile, NodeId, PredId};
 use hir_env::env::LowerEnv;
 use hir_env::expand::{Expansion, FragmentKind, OuterMacro};
 use hir_env::lang::LangItems;
-use hir_env::resolved::{Resolved, Shadow};
+use hir_env::resolved::{BuiltinShadowMode, Resolved};
 use hir_store::ids::{
     BlockId, CfgId, CrateId, CtxId, DefWithBodyId, HygieneId, ItemContainerId, MacroDefId,
     ModuleId, TypeAliasId,
@@ -73,7 +73,7 @@ impl LowerEnv for Plain {
         ModuleId(0)
     }
 
-    fn resolve(&self, _inside: ModuleId, _path: &ModPath, _shadow: Shadow) -> Resolved {
+    fn resolve(&self, _inside: ModuleId, _path: &ModPath, _shadow: BuiltinShadowMode) -> Resolved {
         Resolved {
             types: None,
             values: None,
@@ -112,6 +112,11 @@ impl LowerEnv for Plain {
     }
 
     fn expansion_limit(&self) -> u32 {
+        0
+    }
+
+    // All that is lowered by it is this program's own, so a key that can be foreseen does no harm.
+    fn hash_key(&self) -> u128 {
         0
     }
 }

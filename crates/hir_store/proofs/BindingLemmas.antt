@@ -3,7 +3,7 @@ use Rattle.std.proofs.Common.{arith, ℕ, zero, suc, ◌≤◌, ◌<◌, ◌≡�
 use Rattle.std.proofs.Common.{List, [], ◌∷◌, ◌++◌, length, length-append, append-nil, Option, Some, None}
 use Rattle.std.specs.Prelude.{map, slice_get, slice_set, Result, Ok, Err, OnOk, OnErr}
 use Rattle.std.proofs.lemmas.Option.{same_Some}
-use Rattle.hir_store.specs.declared.fault.StoreFault.TheVariants.{Full}
+use Rattle.hir_store.specs.declared.error.StoreError.TheVariants.{Full}
 use Rattle.hir_store.specs.declared.ids.BindingId.{BindingId}
 use Rattle.hir_store.specs.declared.ids.ExprId.{ExprId}
 use Rattle.hir_store.specs.declared.ids.PatId.{PatId}
@@ -161,6 +161,3 @@ kept_owner a start id h =
 pub adds : (a : Bindings) (x : Binding) → length a.entries < a.limit
     → AddsBinding x a (Ok (binding_id (length a.entries))) (with_binding a x)
 adds a x h = (room (length a.entries) a.limit _ _ h, bindings_more a x, refl, refl)
-
-pub refuses_binding : (a : Bindings) (x : Binding) → a.limit ≤ length a.entries → AddsBinding x a (Err Full) a
-refuses_binding a x h = (refl, λ _. (no_room (length a.entries) a.limit _ _ h, h))

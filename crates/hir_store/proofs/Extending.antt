@@ -1,10 +1,10 @@
 -- What is stored stays.
 use Rattle.std.proofs.Common.{[], ◌∷◌, ◌++◌, Option}
 use Rattle.std.specs.Prelude.{Ok, Err}
-use Rattle.hir_store.specs.Arenas.{Sourced, Adding, Adds, Allocs, with_way}
+use Rattle.hir_store.specs.Arenas.{Sourced, Adding, Adds, Allocs, with_mapping}
 use Rattle.hir_store.specs.Stored.{Stored}
 use Rattle.hir_store.specs.FirstMap.{with_first_by}
-use Rattle.hir_store.specs.Storing.{Checked, Extends, same_expr, same_pat, expr_id, label_id, pat_id, type_id, lifetime_id}
+use Rattle.hir_store.specs.StoreSink.{Checked, Extends, same_expr, same_pat, expr_id, label_id, pat_id, type_id, lifetime_id}
 use Rattle.indexmap.specs.IndexMap.{insert_entry}
 use Rattle.hir_store.specs.Pointers.{Pointer, same_pointer}
 use Rattle.hir_store.specs.Bindings.{Bindings, AddsBinding, with_definition, with_owner, with_problem}
@@ -26,7 +26,7 @@ use Rattle.hir_store.specs.declared.ids.BlockId.{BlockId}
 use Rattle.hir_store.specs.declared.expansions.ExpandedCall.{ExpandedCall}
 use Rattle.hir_store.specs.declared.diagnostics.ExpressionStoreDiagnostics.{ExpressionStoreDiagnostics}
 use Rattle.hir_store.proofs.Arenas.{first_stays, nodes_insert, prefix_refl, prefix_push, prefix_trans}
-use Rattle.hir_store.proofs.Arenas.{continues_refl, continues_trans, continues_way}
+use Rattle.hir_store.proofs.Arenas.{continues_refl, continues_trans, continues_mapping}
 use Rattle.hir_store.proofs.BindingLemmas.{bindings_definition, bindings_owner, bindings_problem, bindings_refl, bindings_trans}
 
 pub extends_refl : (s : Stored) → Extends s s
@@ -140,9 +140,9 @@ extends_lifetime s x source (Ok id) a h = record {
 }
 extends_lifetime s x source (Err f) a h = rw h.0 (extends_refl s)
 
-pub extends_point : (s : Stored) (p : Pointer) (id : ExprId) → Extends s (record s { exprs = with_way s.exprs p id })
+pub extends_point : (s : Stored) (p : Pointer) (id : ExprId) → Extends s (record s { exprs = with_mapping s.exprs p id })
 extends_point s p id = record {
-  exprs = continues_way s.exprs p id;
+  exprs = continues_mapping s.exprs p id;
   labels = continues_refl s.labels;
   pats = continues_refl s.pats;
   bindings = bindings_refl s.bindings;
@@ -335,11 +335,11 @@ extends_owner s start id = record {
   diagnostics = prefix_refl s.diagnostics;
 }
 
-pub extends_point_pat : (s : Stored) (p : Pointer) (id : PatId) → Extends s (record s { pats = with_way s.pats p id })
+pub extends_point_pat : (s : Stored) (p : Pointer) (id : PatId) → Extends s (record s { pats = with_mapping s.pats p id })
 extends_point_pat s p id = record {
   exprs = continues_refl s.exprs;
   labels = continues_refl s.labels;
-  pats = continues_way s.pats p id;
+  pats = continues_mapping s.pats p id;
   bindings = bindings_refl s.bindings;
   types = continues_refl s.types;
   lifetimes = continues_refl s.lifetimes;
@@ -370,13 +370,13 @@ extends_point_target s p id = record {
   diagnostics = prefix_refl s.diagnostics;
 }
 
-pub extends_point_type : (s : Stored) (p : Pointer) (id : TypeRefId) → Extends s (record s { types = with_way s.types p id })
+pub extends_point_type : (s : Stored) (p : Pointer) (id : TypeRefId) → Extends s (record s { types = with_mapping s.types p id })
 extends_point_type s p id = record {
   exprs = continues_refl s.exprs;
   labels = continues_refl s.labels;
   pats = continues_refl s.pats;
   bindings = bindings_refl s.bindings;
-  types = continues_way s.types p id;
+  types = continues_mapping s.types p id;
   lifetimes = continues_refl s.lifetimes;
   roots = prefix_refl s.roots;
   target_nodes = prefix_refl _;

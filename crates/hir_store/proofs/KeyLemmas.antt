@@ -111,8 +111,8 @@ module _ {K T : Type 0} (cmp : K → K → Ordering) (o : IsTotalOrder cmp) (eq 
       same : there.place ≡ k
       same = omega (arith, there.is)
 
-      pub stands : k < length es
-      stands = omega (arith, there.is, there.within)
+      pub corresponds : k < length es
+      corresponds = omega (arith, there.is, there.within)
 
       pub is_found : lookup (eq q) es ≡ option_map (λ e. e.1) (slice_get es k)
       is_found = there.found ∙ ap (λ j. option_map (λ (e : K × T). e.1) (slice_get es j)) same

@@ -7,7 +7,7 @@ use Rattle.std.proofs.lemmas.Bool.{eqb-true, eq-eqb}
 use Rattle.std.proofs.lemmas.Option.{slice_get_within, same_Some}
 use Rattle.std.specs.Cmp.Derive.{both_true}
 use Rattle.indexmap.specs.IndexMap.{insert_entry}
-use Rattle.hir_store.specs.Pointers.{Pointer, same_pointer, found}
+use Rattle.hir_store.specs.Pointers.{Pointer, same_pointer, value_at}
 use Rattle.hir_store.specs.Arenas.{Sourced, Leads, MapsBack, none_yet, with_entry}
 
 both : (a b : Bool) → (a && b) ≡ true → (a ≡ true) × (b ≡ true)
@@ -37,55 +37,55 @@ module _ {T : Type 0} (p : Pointer) (t : T) where
   abbrev pub entered : List (Pointer × T) → List (Pointer × T)
   entered es = insert_entry same_pointer es p t
 
-  pub found_new : (es : List (Pointer × T)) → found (entered es) p ≡ Some t
+  pub found_new : (es : List (Pointer × T)) → value_at (entered es) p ≡ Some t
   found_new [] = ap (λ b. if b then Some t else None) (same_self p)
   found_new (e ∷ es) = by (same_pointer p e.0) refl (found_new es)
     where
-      by : (b : Bool) → same_pointer p e.0 ≡ b → found (entered es) p ≡ Some t
-          → found (if b then (e.0, t) ∷ es else e ∷ entered es) p ≡ Some t
-      by true h k = ap (λ b. if b then Some t else found es p) h
-      by false h k = ap (λ b. if b then Some e.1 else found (entered es) p) h ∙ k
+      by : (b : Bool) → same_pointer p e.0 ≡ b → value_at (entered es) p ≡ Some t
+          → value_at (if b then (e.0, t) ∷ es else e ∷ entered es) p ≡ Some t
+      by true h k = ap (λ b. if b then Some t else value_at es p) h
+      by false h k = ap (λ b. if b then Some e.1 else value_at (entered es) p) h ∙ k
 
   -- what is found was found before, or is the new one
-  pub found_split : (es : List (Pointer × T)) (q : Pointer) (u : T) → found (entered es) q ≡ Some u
-      → (found es q ≡ Some u) ⊎ ((p ≡ q) × (t ≡ u))
+  pub found_split : (es : List (Pointer × T)) (q : Pointer) (u : T) → value_at (entered es) q ≡ Some u
+      → (value_at es q ≡ Some u) ⊎ ((p ≡ q) × (t ≡ u))
   found_split [] q u h = by (same_pointer q p) refl h
     where
       by : (b : Bool) → same_pointer q p ≡ b → (if b then Some t else None) ≡ Some u
-          → (found {T = T} [] q ≡ Some u) ⊎ ((p ≡ q) × (t ≡ u))
+          → (value_at {T = T} [] q ≡ Some u) ⊎ ((p ≡ q) × (t ≡ u))
       by true e k = inr (sym (pointer_is q p e), cc)
       by false e k = inl k
   found_split (e ∷ es) q u h = by (found_split es q u) (same_pointer p e.0) refl (same_pointer q e.0) refl h
     where
-      by : (found (entered es) q ≡ Some u → (found es q ≡ Some u) ⊎ ((p ≡ q) × (t ≡ u)))
+      by : (value_at (entered es) q ≡ Some u → (value_at es q ≡ Some u) ⊎ ((p ≡ q) × (t ≡ u)))
           → (b : Bool) → same_pointer p e.0 ≡ b → (c : Bool) → same_pointer q e.0 ≡ c
-          → found (if b then (e.0, t) ∷ es else e ∷ entered es) q ≡ Some u
-          → (found (e ∷ es) q ≡ Some u) ⊎ ((p ≡ q) × (t ≡ u))
+          → value_at (if b then (e.0, t) ∷ es else e ∷ entered es) q ≡ Some u
+          → (value_at (e ∷ es) q ≡ Some u) ⊎ ((p ≡ q) × (t ≡ u))
       by others true m true n k =
-          let w : Some t ≡ Some u = sym (ap (λ b. if b then Some t else found es q) n) ∙ k in
+          let w : Some t ≡ Some u = sym (ap (λ b. if b then Some t else value_at es q) n) ∙ k in
           inr (pointer_is p e.0 m ∙ sym (pointer_is q e.0 n), cc)
       by others true m false n k =
-          inl (ap (λ b. if b then Some e.1 else found es q) n ∙ (sym (ap (λ b. if b then Some t else found es q) n) ∙ k))
+          inl (ap (λ b. if b then Some e.1 else value_at es q) n ∙ (sym (ap (λ b. if b then Some t else value_at es q) n) ∙ k))
       by others false m true n k =
-          inl (ap (λ b. if b then Some e.1 else found es q) n ∙ (sym (ap (λ b. if b then Some e.1 else found (entered es) q) n) ∙ k))
+          inl (ap (λ b. if b then Some e.1 else value_at es q) n ∙ (sym (ap (λ b. if b then Some e.1 else value_at (entered es) q) n) ∙ k))
       by others false m false n k =
-          let later = others (sym (ap (λ b. if b then Some e.1 else found (entered es) q) n) ∙ k) in
-          ⊎_elim (λ x. inl (ap (λ b. if b then Some e.1 else found es q) n ∙ x)) (λ x. inr x) later
+          let later = others (sym (ap (λ b. if b then Some e.1 else value_at (entered es) q) n) ∙ k) in
+          ⊎_elim (λ x. inl (ap (λ b. if b then Some e.1 else value_at es q) n ∙ x)) (λ x. inr x) later
 
   -- another node leads to where it led
-  pub found_other : (es : List (Pointer × T)) (q : Pointer) → same_pointer p q ≡ false → found (entered es) q ≡ found es q
+  pub found_other : (es : List (Pointer × T)) (q : Pointer) → same_pointer p q ≡ false → value_at (entered es) q ≡ value_at es q
   found_other [] q h = by (same_pointer q p) refl
     where
-      by : (b : Bool) → same_pointer q p ≡ b → found (entered []) q ≡ found {T = T} [] q
+      by : (b : Bool) → same_pointer q p ≡ b → value_at (entered []) q ≡ value_at {T = T} [] q
       by true e = absurd (true≢false (sym (ap (same_pointer p) (pointer_is q p e) ∙ same_self p) ∙ h))
       by false e = ap (λ b. if b then Some t else None) e
   found_other (e ∷ es) q h = by (found_other es q h) (same_pointer p e.0) refl (same_pointer q e.0) refl
     where
-      by : found (entered es) q ≡ found es q → (b : Bool) → same_pointer p e.0 ≡ b → (c : Bool) → same_pointer q e.0 ≡ c
-          → found (if b then (e.0, t) ∷ es else e ∷ entered es) q ≡ found (e ∷ es) q
+      by : value_at (entered es) q ≡ value_at es q → (b : Bool) → same_pointer p e.0 ≡ b → (c : Bool) → same_pointer q e.0 ≡ c
+          → value_at (if b then (e.0, t) ∷ es else e ∷ entered es) q ≡ value_at (e ∷ es) q
       by others true m true n =
           absurd (true≢false (sym (same_self p) ∙ (ap (same_pointer p) (pointer_is p e.0 m ∙ sym (pointer_is q e.0 n)) ∙ h)))
-      by others true m false n = ap (λ b. if b then Some t else found es q) n ∙ sym (ap (λ b. if b then Some e.1 else found es q) n)
+      by others true m false n = ap (λ b. if b then Some t else value_at es q) n ∙ sym (ap (λ b. if b then Some e.1 else value_at es q) n)
       by others false m c n = ap (λ r. if same_pointer q e.0 then Some e.1 else r) others
 
 -- a list with one item more
@@ -157,7 +157,7 @@ module _ {T I : Type 0} (place : I → ℕ) where
         last n p e same =
             record {
               id = new_id number a;
-              is = subst (λ y. found (led number a s) y ≡ Some (new_id number a)) same (found_new s (new_id number a) a.map);
+              is = subst (λ y. value_at (led number a s) y ≡ Some (new_id number a)) same (found_new s (new_id number a) a.map);
               from = omega (arith, e, at);
             }
 
@@ -168,7 +168,7 @@ module _ {T I : Type 0} (place : I → ℕ) where
             let same = pointer_is s p e in
             let from = l.from in record {
               id = new_id number a;
-              is = subst (λ y. found (led number a s) y ≡ Some (new_id number a)) same (found_new s (new_id number a) a.map);
+              is = subst (λ y. value_at (led number a s) y ≡ Some (new_id number a)) same (found_new s (new_id number a) a.map);
               from = omega (arith, below, from, at);
             }
         still n p l false e = record { id = l.id; is = found_other s (new_id number a) a.map p e ∙ l.is; from = l.from }

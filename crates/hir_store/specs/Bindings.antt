@@ -2,8 +2,8 @@
 use Rattle.std.specs.Prelude.{◌≡◌, ◌≢◌, ◌≤◌, ℕ, zero, suc, nat_lt, if◌then◌else◌}
 use Rattle.std.specs.Prelude.{List, [], ◌∷◌, ◌++◌, length, map, Option, Some, None, Result, Ok, Err}
 use Rattle.hir_store.specs.Arenas.{Prefix}
-use Rattle.hir_store.specs.declared.fault.StoreFault.{StoreFault}
-use Rattle.hir_store.specs.declared.fault.StoreFault.TheVariants.{Memory, Full}
+use Rattle.hir_store.specs.declared.error.StoreError.{StoreError}
+use Rattle.hir_store.specs.declared.error.StoreError.TheVariants.{Memory, Full}
 use Rattle.hir_store.specs.declared.ids.BindingId.{BindingId}
 use Rattle.hir_store.specs.declared.ids.ExprId.{ExprId}
 use Rattle.hir_store.specs.declared.ids.PatId.{PatId}
@@ -86,7 +86,7 @@ owner_at [] n = None
 owner_at (o ∷ os) zero = o
 owner_at (o ∷ os) (suc n) = owner_at os n
 
-abbrev pub add_binding : Binding → Bindings → Result BindingId StoreFault × Bindings
+abbrev pub add_binding : Binding → Bindings → Result BindingId StoreError × Bindings
 add_binding x a =
     if nat_lt (length a.entries) a.limit then (Ok (binding_id (length a.entries)), with_binding a x) else (Err Full, a)
 
@@ -109,18 +109,22 @@ StayOwned (o ∷ os) [] = ⊥
 StayOwned (None ∷ os) (p ∷ ps) = StayOwned os ps
 StayOwned (Some id ∷ os) (p ∷ ps) = (p ≡ Some id) × StayOwned os ps
 
--- Bindings stay, but for their problems, and so do the patterns that make them and what owns them.
+-- Bindings stay, except for their problems, and so do the patterns that make them and what owns them.
 pub record BindingsContinue (a b : Bindings) : Type 0 where
   pub entries : Prefix (map without_problem a.entries) (map without_problem b.entries)
   pub definitions : EachGoesOn a.definitions b.definitions
   pub owners : StayOwned a.owners b.owners
   pub limit : b.limit ≡ a.limit
 
+-- no more may be there
+abbrev pub BindingsAtLimit : Bindings → Type 0
+BindingsAtLimit a = a.limit ≤ length a.entries
+
 -- outcomes
 
 -- The outcome of `alloc`, unless memory was refused, and then nothing changes.
-abbrev pub AddsBinding : Binding → Bindings → Result BindingId StoreFault → Bindings → Type 0
+abbrev pub AddsBinding : Binding → Bindings → Result BindingId StoreError → Bindings → Type 0
 AddsBinding x old (Ok id) new =
     (add_binding x old ≡ (Ok id, new)) × BindingsContinue old new
     × (new ≡ with_binding old x) × (id ≡ binding_id (length old.entries))
-AddsBinding x old (Err e) new = (new ≡ old) × (e ≢ Memory → (add_binding x old ≡ (Err e, new)) × (new.limit ≤ length new.entries))
+AddsBinding x old (Err e) new = (new ≡ old) × (e ≢ Memory → (add_binding x old ≡ (Err e, new)) × BindingsAtLimit new)

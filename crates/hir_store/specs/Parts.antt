@@ -1,5 +1,5 @@
 -- The direct parts of a stored type, in the order in which a visitor is handed them.
-use Rattle.std.specs.Prelude.{Bool, List, [], ◌∷◌, ◌++◌, Option, Some, None, if◌then◌else◌}
+use Rattle.std.specs.Prelude.{List, [], ◌∷◌, Option, Some, None}
 use Rattle.hir_store.specs.declared.ids.TypeRefId.{TypeRefId}
 use Rattle.hir_store.specs.declared.ids.LifetimeRefId.{LifetimeRefId}
 use Rattle.hir_store.specs.declared.path.Path.{Path}
@@ -9,8 +9,7 @@ use Rattle.hir_store.specs.declared.path.GenericArg.TheVariants as arg
 use Rattle.hir_store.specs.declared.path.GenericArgs.{GenericArgs}
 use Rattle.hir_store.specs.declared.path.AssociatedTypeBinding.{AssociatedTypeBinding}
 use Rattle.hir_store.specs.declared.path.AssociatedTypeBinding.TheOpen.{AssociatedTypeBinding-F, GenericArgs-F}
-use Rattle.hir_store.specs.declared.path.AssociatedTypeBinding.TheFolds.{fold-AssociatedTypeBinding, fold-GenericArgs}
-use Rattle.hir_store.specs.declared.path.AssociatedTypeBinding.TheViews.{out-GenericArgs}
+use Rattle.hir_store.specs.declared.path.AssociatedTypeBinding.TheFolds.{para-AssociatedTypeBinding, para-GenericArgs}
 use Rattle.hir_store.specs.declared.type_ref.UseArgRef.{UseArgRef}
 use Rattle.hir_store.specs.declared.type_ref.UseArgRef.TheVariants as use_arg
 use Rattle.hir_store.specs.declared.type_ref.TypeBound.{TypeBound}
@@ -18,87 +17,95 @@ use Rattle.hir_store.specs.declared.type_ref.TypeBound.TheVariants as bound
 use Rattle.hir_store.specs.declared.type_ref.TypeRef.{TypeRef}
 use Rattle.hir_store.specs.declared.type_ref.TypeRef.TheVariants as ty
 
--- a part, which is a number of the same store
-pub data Part : Type 0 where
-  a_type : TypeRefId → Part
-  a_lifetime : LifetimeRefId → Part
+-- Parts one after another: numbers of the same store, and arguments, with what follows these where they are gone into.
+pub data Parts : Type 0 where
+  no_parts : Parts
+  type_and : TypeRefId → Parts → Parts
+  lifetime_and : LifetimeRefId → Parts → Parts
+  args_and : GenericArgs → Parts → Parts → Parts
 
-abbrev pub of_present : {A : Type 0} → (A → List Part) → Option A → List Part
-of_present f None = []
+-- these, and then those
+abbrev pub and_then : Parts → Parts → Parts
+and_then no_parts qs = qs
+and_then (type_and t ps) qs = type_and t (and_then ps qs)
+and_then (lifetime_and l ps) qs = lifetime_and l (and_then ps qs)
+and_then (args_and a inside ps) qs = args_and a inside (and_then ps qs)
+
+abbrev pub of_present : {A : Type 0} → (A → Parts) → Option A → Parts
+of_present f None = no_parts
 of_present f (Some a) = f a
 
-abbrev pub of_each : {A : Type 0} → (A → List Part) → List A → List Part
-of_each f [] = []
-of_each f (a ∷ as') = f a ++ of_each f as'
+abbrev pub of_each : {A : Type 0} → (A → Parts) → List A → Parts
+of_each f [] = no_parts
+of_each f (a ∷ as') = and_then (f a) (of_each f as')
 
-abbrev pub joined : List (List Part) → List Part
-joined [] = []
-joined (ps ∷ pss) = ps ++ joined pss
+abbrev pub of_type : TypeRefId → Parts
+of_type t = type_and t no_parts
 
-abbrev pub of_type : TypeRefId → List Part
-of_type t = a_type t ∷ []
-
-abbrev pub of_lifetime : LifetimeRefId → List Part
-of_lifetime l = a_lifetime l ∷ []
+abbrev pub of_lifetime : LifetimeRefId → Parts
+of_lifetime l = lifetime_and l no_parts
 
 -- a constant isn't gone into
-abbrev pub of_arg : GenericArg → List Part
+abbrev pub of_arg : GenericArg → Parts
 of_arg (arg.Type_ t) = of_type t
 of_arg (arg.Lifetime l) = of_lifetime l
-of_arg (arg.Const c) = []
+of_arg (arg.Const c) = no_parts
 
-abbrev pub of_use : UseArgRef → List Part
-of_use (use_arg.Name n) = []
+abbrev pub of_use : UseArgRef → Parts
+of_use (use_arg.Name n) = no_parts
 of_use (use_arg.Lifetime l) = of_lifetime l
 
-abbrev pub of_bound : TypeBound → List Part
+abbrev pub of_bound : TypeBound → Parts
 of_bound (bound.Path t modifier) = of_type t
 of_bound (bound.ForLifetime names t) = of_type t
 of_bound (bound.Lifetime l) = of_lifetime l
 of_bound (bound.Use us) = of_each of_use us
-of_bound bound.Error = []
+of_bound bound.Error = no_parts
 
--- The visitor says by whether they carry `Self` which arguments it goes into. Arguments hold bindings, which hold arguments.
-module _ (enters : Bool → Bool) where
-  abbrev pub binding_step : AssociatedTypeBinding-F (List Part) (List Part) → List Part
-  binding_step b = of_present (λ ps. ps) b.args ++ (of_present of_type b.type_ref ++ of_each of_bound b.bounds)
+-- Arguments hold bindings, which hold arguments. Each step sees what is stored, too.
 
-  abbrev pub args_step : GenericArgs-F (List Part) (List Part) → List Part
-  args_step a = (if enters a.has_self_type then of_each of_arg a.args ++ joined a.bindings else [])
+abbrev pub args_beside : GenericArgs × Parts → Parts
+args_beside p = args_and p.0 p.1 no_parts
 
-  unfoldable pub of_args : GenericArgs → List Part
-  of_args = fold-GenericArgs (List Part) (List Part) binding_step args_step
+abbrev pub binding_step : AssociatedTypeBinding-F (AssociatedTypeBinding × Parts) (GenericArgs × Parts) → Parts
+binding_step b = and_then (of_present args_beside b.args) (and_then (of_present of_type b.type_ref) (of_each of_bound b.bounds))
 
-  unfoldable pub of_binding : AssociatedTypeBinding → List Part
-  of_binding = fold-AssociatedTypeBinding (List Part) (List Part) binding_step args_step
+abbrev pub args_step : GenericArgs-F (AssociatedTypeBinding × Parts) (GenericArgs × Parts) → Parts
+args_step a = and_then (of_each of_arg a.args) (of_each (λ p. p.1) a.bindings)
 
-  -- of arguments that are gone into
-  abbrev pub inside_args : GenericArgs → List Part
-  inside_args a = of_each of_arg (out-GenericArgs a).args ++ of_each of_binding (out-GenericArgs a).bindings
+-- what follows arguments that are gone into
+unfoldable pub inside_args : GenericArgs → Parts
+inside_args = para-GenericArgs Parts Parts binding_step args_step
 
-  abbrev pub of_path : Path → List Part
-  of_path (BarePath p) = []
-  of_path (Normal p) = of_present of_type p.type_anchor ++ of_each (of_present of_args) p.generic_args
-  of_path (LangItem i) = []
+unfoldable pub of_binding : AssociatedTypeBinding → Parts
+of_binding = para-AssociatedTypeBinding Parts Parts binding_step args_step
 
-  -- the pattern of a type and the length of an array aren't gone into
-  abbrev pub parts : TypeRef → List Part
-  parts ty.Never = []
-  parts ty.Placeholder = []
-  parts ty.Error = []
-  parts (ty.Tuple ts) = of_each of_type ts
-  parts (ty.Path p) = of_path p
-  parts (ty.RawPtr t mutability) = of_type t
-  parts (ty.Reference r) = of_type r.ty ++ of_present of_lifetime r.lifetime
-  parts (ty.Array a) = of_type a.ty
-  parts (ty.Slice t) = of_type t
-  parts (ty.Fn g) = of_each of_type g.params
-  parts (ty.ImplTrait bounds) = of_each of_bound bounds
-  parts (ty.DynTrait bounds) = of_each of_bound bounds
-  parts (ty.Pattern t p) = of_type t
-  parts (ty.TypeParam p) = []
+abbrev pub of_args : GenericArgs → Parts
+of_args a = args_and a (inside_args a) no_parts
 
-  -- of what stands there, where anything does
-  abbrev pub parts_found : Option TypeRef → List Part
-  parts_found None = []
-  parts_found (Some t) = parts t
+abbrev pub of_path : Path → Parts
+of_path (BarePath p) = no_parts
+of_path (Normal p) = and_then (of_present of_type p.type_anchor) (of_each (of_present of_args) p.generic_args)
+of_path (LangItem i) = no_parts
+
+-- the pattern of a type and the length of an array aren't gone into
+abbrev pub parts : TypeRef → Parts
+parts ty.Never = no_parts
+parts ty.Placeholder = no_parts
+parts ty.Error = no_parts
+parts (ty.Tuple ts) = of_each of_type ts
+parts (ty.Path p) = of_path p
+parts (ty.RawPtr t mutability) = of_type t
+parts (ty.Reference r) = and_then (of_type r.ty) (of_present of_lifetime r.lifetime)
+parts (ty.Array a) = of_type a.ty
+parts (ty.Slice t) = of_type t
+parts (ty.Fn g) = of_each of_type g.params
+parts (ty.ImplTrait bounds) = of_each of_bound bounds
+parts (ty.DynTrait bounds) = of_each of_bound bounds
+parts (ty.Pattern t p) = of_type t
+parts (ty.TypeParam p) = no_parts
+
+-- of what stands there, where anything does
+abbrev pub parts_found : Option TypeRef → Parts
+parts_found None = no_parts
+parts_found (Some t) = parts t

@@ -171,7 +171,7 @@ past_pat_field f = past_pat_id f.pat
 abbrev pub past_pat_fields : List RecordFieldPat → Past
 past_pat_fields = past_each past_pat_field
 
--- but for the binding
+-- except for the binding
 abbrev pub past_pat : Pat → Past
 past_pat pat.Missing = nothing
 past_pat pat.Wild = nothing

@@ -198,9 +198,6 @@ HasTypeOption s o = Has s (past_present past_type_id o)
 abbrev pub HasTypes : Stored → List TypeRefId → Type 0
 HasTypes s ids = Has s (past_type_ids ids)
 
-abbrev pub HasTypeOptions : Stored → List (Option TypeRefId) → Type 0
-HasTypeOptions s ids = Has s (past_type_options ids)
-
 abbrev pub HasConst : Stored → ConstRef → Type 0
 HasConst s c = HasExpr s c.expr
 
@@ -209,12 +206,6 @@ HasLifetime s id = suc id.0 ≤ length s.lifetimes.entries
 
 abbrev pub HasLifetimeOption : Stored → Option LifetimeRefId → Type 0
 HasLifetimeOption s o = Has s (past_present past_lifetime_id o)
-
-abbrev pub HasArg : Stored → GenericArg → Type 0
-HasArg s a = Has s (past_arg a)
-
-abbrev pub HasArgs : Stored → GenericArgs → Type 0
-HasArgs s a = Has s (past_generic a)
 
 abbrev pub HasArgsOption : Stored → Option GenericArgs → Type 0
 HasArgsOption s o = Has s (past_present past_generic o)
@@ -274,14 +265,14 @@ past_definition p = suc p.0
 abbrev pub past_definitions : List (List PatId) → ℕ
 past_definitions pss = past (past past_definition) pss
 
--- every number in what is stored so far is in range, but for the ways to what is stored
+-- every number in what is stored so far is in range, except for the ways to what is stored
 abbrev pub InRangeSoFar : Stored → Type 0
 InRangeSoFar s =
     StoreInRange (store_of s)
     × (past (λ e. past_expr e.0) s.field_map_back ≤ length s.exprs.entries)
     × (past (λ e. suc e.0.0) s.pat_field_map_back ≤ length s.pats.entries)
     × (past_definitions s.bindings.definitions ≤ length s.pats.entries)
-    × (past (λ way. suc way.1.0) s.target_map ≤ length s.pats.entries)
+    × (past (λ mapping. suc mapping.1.0) s.target_map ≤ length s.pats.entries)
 
 -- every number in the source map is one of the store, and each entry has its source
 pub record MapInRange (s : Store) (m : SourceMap) : Type 0 where
@@ -290,16 +281,16 @@ pub record MapInRange (s : Store) (m : SourceMap) : Type 0 where
   pub pat_sources : length m.pat_sources ≡ length s.pats
   pub type_sources : length m.type_sources ≡ length s.types
   pub lifetime_sources : length m.lifetime_sources ≡ length s.lifetimes
-  pub exprs : past (λ way. past_expr way.1) m.expr_map ≤ length s.exprs
-  pub labels : past (λ way. past_label way.1) m.label_map ≤ length s.labels
-  pub pats : past (λ way. suc way.1.0) m.pat_map ≤ length s.pats
-  pub targets : past (λ way. suc way.1.0) m.target_map ≤ length s.pats
+  pub exprs : past (λ mapping. past_expr mapping.1) m.expr_map ≤ length s.exprs
+  pub labels : past (λ mapping. past_label mapping.1) m.label_map ≤ length s.labels
+  pub pats : past (λ mapping. suc mapping.1.0) m.pat_map ≤ length s.pats
+  pub targets : past (λ mapping. suc mapping.1.0) m.target_map ≤ length s.pats
   pub fields : past (λ e. past_expr e.0) m.field_map_back ≤ length s.exprs
   pub pat_fields : past (λ e. suc e.0.0) m.pat_field_map_back ≤ length s.pats
   pub as_many_bindings : length m.binding_definitions ≡ length s.bindings
   pub definitions : past_definitions m.binding_definitions ≤ length s.pats
-  pub types : past (λ way. suc way.1.0) m.types_map ≤ length s.types
-  pub lifetimes : past (λ way. suc way.1.0) m.lifetime_map ≤ length s.lifetimes
+  pub types : past (λ mapping. suc mapping.1.0) m.types_map ≤ length s.types
+  pub lifetimes : past (λ mapping. suc mapping.1.0) m.lifetime_map ≤ length s.lifetimes
 
 pub record InRange (s : Store) (m : SourceMap) : Type 0 where
   pub store : StoreInRange s

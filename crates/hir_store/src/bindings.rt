@@ -1,13 +1,13 @@
 //! Bindings, each with the patterns that make it and with what owns it.
 
-ghost use Rattle.std.specs.Prelude.{◌≡◌, ◌<◌, ◌++◌, ◌∷◌, [], None, OnOk, OnErr, false, length, slice_get, true};
+ghost use Rattle.std.specs.Prelude.{◌≡◌, ◌<◌, ◌↔◌, ◌++◌, ◌∷◌, [], None, OnOk, OnErr, IsErrOf, false, length, slice_get, true};
 ghost use Rattle.std.specs.Option.{option_copied};
-ghost use Rattle.hir_store.specs.Bindings.{AddsBinding, KeptBindings, at_place, none_bound, own_from, owner_at};
+ghost use Rattle.hir_store.specs.Bindings.{AddsBinding, BindingsAtLimit, KeptBindings, at_place, none_bound, own_from, owner_at};
 ghost use Rattle.hir_store.specs.Pages.{joined, ArePages, Paged};
 ghost use Rattle.hir_store.specs.Bindings.{pattern_added, problem_set, unowned_from, with_definition, with_owner, with_problem};
 
 use crate::arena::Arena;
-use crate::fault::StoreFault;
+use crate::error::StoreError;
 use crate::ids::{BindingId, ExprId, PatId};
 use crate::pages::{PAGE, Pages, get, next_page, put};
 use crate::pat::Binding;
@@ -37,6 +37,20 @@ impl Model for Definitions {
 }
 
 impl Definitions {
+    /// These lists: the one at place i is that of binding i.
+    pub fn from_vec(lists: Vec<Seq<PatId>>) -> Definitions
+        ensures { result ≡ lists.items }
+    {
+        Definitions { lists }
+    }
+
+    /// The lists in the order of the bindings' numbers.
+    pub fn as_slice(&self) -> &[Seq<PatId>]
+        ensures { result.now ≡ self.now }
+    {
+        self.lists.as_slice()
+    }
+
     /// The patterns of the binding, in the order in which they came.
     pub fn of(&self, id: BindingId) -> Option<&Seq<PatId>>
         ensures { option_copied result ≡ slice_get self.now id.0 }
@@ -76,6 +90,20 @@ impl Model for Owners {
 }
 
 impl Owners {
+    /// These owners: what stands at place i is that of binding i.
+    pub fn from_vec(of: Vec<Option<ExprId>>) -> Owners
+        ensures { result ≡ of.items }
+    {
+        Owners { of }
+    }
+
+    /// What owns each binding, where something does, in the order of the bindings' numbers.
+    pub fn as_slice(&self) -> &[Option<ExprId>]
+        ensures { result.now ≡ self.now }
+    {
+        self.of.as_slice()
+    }
+
     /// What owns the binding, where something does.
     pub fn of(&self, id: BindingId) -> Option<ExprId>
         ensures { result ≡ owner_at self.now id.0 }
@@ -94,10 +122,10 @@ fn push_at(lists: &mut Vec<Seq<PatId>>, at: usize, pat: PatId) -> Result<(), All
 }
 
 /// Notes what is wrong with the binding at this place of these pages.
-fn note_in(pages: &mut Vec<Vec<Binding>>, at: usize, problem: Option<BindingProblems>)
+fn track_in(pages: &mut Vec<Vec<Binding>>, at: usize, problem: Option<BindingProblems>)
     requires paged { ArePages pages.old.items }
     requires within { at < length (joined pages.old.items) }
-    ensures noted { joined pages.new.items ≡ at_place at (problem_set problem) (joined pages.old.items) }
+    ensures tracked { joined pages.new.items ≡ at_place at (problem_set problem) (joined pages.old.items) }
     ensures paged { ArePages pages.new.items }
 {
     let page = &mut pages[at / PAGE];
@@ -105,13 +133,13 @@ fn note_in(pages: &mut Vec<Vec<Binding>>, at: usize, problem: Option<BindingProb
 }
 
 /// Notes what is wrong with the binding at this place.
-fn note_at(entries: &mut Pages<Binding>, at: usize, problem: Option<BindingProblems>)
+fn track_at(entries: &mut Pages<Binding>, at: usize, problem: Option<BindingProblems>)
     requires paged { Paged entries.old }
     requires within { at < length (joined entries.old.pages.items) }
-    ensures noted { joined entries.new.pages.items ≡ at_place at (problem_set problem) (joined entries.old.pages.items) }
+    ensures tracked { joined entries.new.pages.items ≡ at_place at (problem_set problem) (joined entries.old.pages.items) }
     ensures paged { Paged entries.new }
 {
-    note_in(&mut entries.pages, at, problem);
+    track_in(&mut entries.pages, at, problem);
 }
 
 /// What owns bindings, and those that nothing owns yet. These are a list of their own, ascending, so that each is looked at once when
@@ -280,12 +308,13 @@ impl BindingArena {
     ///
     /// `Full` exactly where the limit is reached, and then no memory is asked for; `Memory` where a growth was refused. On either
     /// the binding is dropped and nothing changes.
-    pub fn alloc(&mut self, binding: Binding) -> Result<BindingId, StoreFault>
-        ensures { AddsBinding binding self.old result self.new }
+    pub fn alloc(&mut self, binding: Binding) -> Result<BindingId, StoreError>
+        ensures stored { AddsBinding binding self.old result self.new }
+        ensures full { IsErrOf result StoreError.Full ↔ BindingsAtLimit self.old }
     {
         let at = self.len();
         if at >= self.limit {
-            return Err(StoreFault::Full);
+            return Err(StoreError::Full);
         }
         let page = next_page(&mut self.pages)?;
         self.definitions.reserve(1)?;
@@ -311,7 +340,7 @@ impl BindingArena {
         requires { id.0 < length self.old.entries }
         ensures { self.new ≡ with_problem self.old id problem }
     {
-        note_at(&mut self.pages, id.0 as usize, problem);
+        track_at(&mut self.pages, id.0 as usize, problem);
     }
 
     /// From this binding on the expression owns each that nothing owned.

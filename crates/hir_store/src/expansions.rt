@@ -1,4 +1,4 @@
-//! The calls of macros that lowering entered.
+//! The macro calls that lowering entered.
 
 use hir_base::node::{HirFileId, InFile, NodeId, TextRange};
 

@@ -39,6 +39,13 @@ impl<K: Copy + Ord, T: Copy> FirstMap<K, T> {
         }
     }
 
+    /// The keys with their answers, in the order in which they came.
+    pub fn entries(&self) -> &[(K, T)]
+        ensures { result.now ≡ self.now }
+    {
+        self.entries.entries()
+    }
+
     /// Says the answer for a key, unless one is said already. Where memory is refused the map is unchanged.
     pub fn insert(&mut self, key: K, answer: T) -> Result<(), AllocError>
         ensures ok { OnOk result (self.new ≡ with_first_by K.eq self.old key answer) }

@@ -11,7 +11,8 @@ use crate::ids::{
     GenericDefId, LifetimeParamId, LifetimeRefId, LocalLifetimeParamId, LocalTypeOrConstParamId,
     TypeParamId, TypeRefId,
 };
-use crate::name::{Name, copy_names};
+use crate::name::Name;
+use crate::shared::SharedNames;
 use crate::type_ref::{ConstRef, TypeBound};
 use either::Either;
 use hir_base::Seq;
@@ -208,10 +209,10 @@ impl LifetimeParamData {
 }
 
 /// What is asked of a type, or of a lifetime. `lifetimes` has the names of the lifetimes of the `for<..>` in front, where one stands
-/// there.
+/// there; all predicates of one `for<..>` have them together.
 pub enum WherePredicate {
     TypeBound {
-        lifetimes: Option<Seq<Name>>,
+        lifetimes: Option<SharedNames>,
         target: TypeRefId,
         bound: TypeBound,
     },
@@ -237,11 +238,11 @@ impl Drop for WherePredicate {
     }
 }
 
-fn copy_binder(names: &Option<Seq<Name>>) -> Result<Option<Seq<Name>>, AllocError>
+fn copy_binder(names: &Option<SharedNames>) -> Result<Option<SharedNames>, AllocError>
     ensures { IfOk result (λ copy. copy ≡ names.now) }
 {
     match names {
-        Some(names) => Ok(Some(copy_names(names)?)),
+        Some(names) => Ok(Some(names.clone()?)),
         None => Ok(None),
     }
 }

@@ -67,6 +67,13 @@ impl<K: Ord + Drop, T: Copy> Keyed<K, T> {
         self.entries.len()
     }
 
+    /// The entries in the order in which they came.
+    pub fn entries(&self) -> &[(K, T)]
+        ensures { result.now ≡ self.now }
+    {
+        self.entries.as_slice()
+    }
+
     /// The number of the key's entry, from 0 in the order in which they came, and its value.
     pub fn find(&self, key: &K) -> Option<(usize, T)>
         ensures value { option_map (λ found. found.1) result ≡ lookup (K.eq key.now) self.now }

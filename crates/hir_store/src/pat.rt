@@ -39,7 +39,7 @@ impl Drop for RecordFieldPat {
     }
 }
 
-/// A pattern, or what is assigned to, whose parts stand in the same store. An ellipsis is the place among `args` at which two dots
+/// A pattern, or the assignee expression, whose parts stand in the same store. An ellipsis is the place among `args` at which two dots
 /// stand. A path has the hygiene that its name is looked up with.
 pub enum Pat {
     Missing,

@@ -2,11 +2,11 @@
 
 ghost use Rattle.std.specs.Prelude.{◌≡◌, ◌<◌, ◌≤◌, ◌↔◌, IfOk, OnOk, OnErr, IsErrOf, length, slice_get};
 ghost use Rattle.std.specs.Option.{option_copied};
-ghost use Rattle.hir_store.specs.Arenas.{Allocs, AllocsMade, Kept, none_yet, pointed, with_way};
-ghost use Rattle.hir_store.specs.Pointers.{flattened};
+ghost use Rattle.hir_store.specs.Arenas.{Allocs, AllocsMade, AtLimit, Kept, none_yet, insert_pointer, with_mapping};
+ghost use Rattle.hir_store.specs.Pointers.{flat_option};
 
 use crate::arena::{Arena, Entry};
-use crate::fault::StoreFault;
+use crate::error::StoreError;
 use crate::pages::{Pages, get, next_page, put};
 use crate::pointers::PointerMap;
 use hir_base::Seq;
@@ -54,7 +54,7 @@ fn lead<I: Copy>(
     node: Option<InFile<AstPtr>>,
     id: I,
 ) -> Result<(), AllocError>
-    ensures ok { OnOk result (map.new ≡ pointed map.old node id) }
+    ensures ok { OnOk result (map.new ≡ insert_pointer map.old node id) }
     ensures unchanged { OnErr result (map.new ≡ map.old) }
 {
     match node {
@@ -93,7 +93,7 @@ impl<T: Entry> SourcedArena<T> {
 
     /// The node that the entry came from; none where it came from none, or where there is no such entry.
     pub fn source(&self, id: T::Id) -> Option<InFile<AstPtr>>
-        ensures { result ≡ flattened (slice_get self.now.sources (T.place id)) }
+        ensures { result ≡ flat_option (slice_get self.now.sources (T.place id)) }
     {
         self.sources.get(T::place(id) as usize).copied().flatten()
     }
@@ -102,12 +102,13 @@ impl<T: Entry> SourcedArena<T> {
     ///
     /// `Full` exactly where the limit is reached, and then no memory is asked for; `Memory` where a growth was
     /// refused. On either the entry is dropped and nothing changes.
-    pub fn alloc(&mut self, entry: T, source: Option<InFile<AstPtr>>) -> Result<T::Id, StoreFault>
-        ensures { Allocs T.number entry source self.old result self.new }
+    pub fn alloc(&mut self, entry: T, source: Option<InFile<AstPtr>>) -> Result<T::Id, StoreError>
+        ensures stored { Allocs T.number entry source self.old result self.new }
+        ensures full { IsErrOf result StoreError.Full ↔ AtLimit self.old }
     {
         let at = self.len();
         if at >= self.limit {
-            return Err(StoreFault::Full);
+            return Err(StoreError::Full);
         }
         let page = next_page(&mut self.pages)?;
         self.sources.reserve(1)?;
@@ -119,28 +120,29 @@ impl<T: Entry> SourcedArena<T> {
     }
 
     /// Stores an entry that was made up for a node, which doesn't lead to it. It refuses as `alloc` does.
-    pub fn alloc_made(
+    pub fn alloc_desugared(
         &mut self,
         entry: T,
         source: Option<InFile<AstPtr>>,
-    ) -> Result<T::Id, StoreFault>
-        ensures { AllocsMade T.number entry source self.old result self.new }
+    ) -> Result<T::Id, StoreError>
+        ensures stored { AllocsMade T.number entry source self.old result self.new }
+        ensures full { IsErrOf result StoreError.Full ↔ AtLimit self.old }
     {
-        let at = self.len();
-        if at >= self.limit {
-            return Err(StoreFault::Full);
+        let place = self.len();
+        if place >= self.limit {
+            return Err(StoreError::Full);
         }
         let page = next_page(&mut self.pages)?;
         self.sources.reserve(1)?;
         put(&mut self.pages, page, entry);
         self.sources.push_reserved(source);
-        Ok(T::number(at))
+        Ok(T::number(place))
     }
 
     /// Lets a further node lead to an entry. Where memory is refused nothing changes.
     pub fn point(&mut self, node: InFile<AstPtr>, id: T::Id) -> Result<(), AllocError>
         requires { T.place id < length self.old.entries }
-        ensures ok { OnOk result (self.new ≡ with_way self.old node id) }
+        ensures ok { OnOk result (self.new ≡ with_mapping self.old node id) }
         ensures unchanged { OnErr result (self.new ≡ self.old) }
     {
         self.map.insert(node, id)?;

@@ -3,12 +3,12 @@
 ghost use Rattle.std.specs.Prelude.{◌≡◌, Bool, IfOk, slice_get};
 ghost use Rattle.hir_store.specs.declared.ids.TypeRefId.{TypeRefId as TypeNumber};
 ghost use Rattle.hir_store.specs.declared.ids.LifetimeRefId.{LifetimeRefId as LifetimeNumber};
-ghost use Rattle.hir_store.specs.declared.path.AssociatedTypeBinding.TheViews.{out-GenericArgs};
+ghost use Rattle.hir_store.specs.declared.path.GenericArgs.{GenericArgs as ArgsValue};
 ghost use Rattle.hir_store.specs.Parts.{of_args, of_binding, of_bound, of_each, of_present, of_path, inside_args, parts, parts_found};
 ghost use Rattle.hir_store.specs.Parts as spec;
 ghost use Rattle.hir_store.specs.Handed.{handed};
 
-use crate::fault::StoreFault;
+use crate::error::StoreError;
 use crate::ids::{LifetimeRefId, TypeRefId};
 use crate::path::{AssociatedTypeBinding, GenericArg, GenericArgs, NormalPath, Path};
 use crate::store::ExpressionStore;
@@ -16,29 +16,31 @@ use crate::type_ref::{TypeBound, TypeRef, UseArgRef};
 
 /// What is handed the direct parts of a stored type. None of its calls goes on by itself.
 pub trait StoreVisitor {
-    /// What it is after a type, and after a lifetime.
+    /// What it is after a type, after a lifetime, and after arguments, before what these hold follows.
     ghost after_type: { Self → TypeNumber → Self };
 
     ghost after_lifetime: { Self → LifetimeNumber → Self };
 
-    /// Which arguments it goes into, by whether they carry `Self`.
-    ghost enters: { Bool → Bool };
+    ghost after_args: { Self → ArgsValue → Self };
 
-    fn on_type(&mut self, id: TypeRefId) -> Result<(), StoreFault>
+    /// Which arguments it goes into, by what it is when it is asked.
+    ghost enters: { Self → ArgsValue → Bool };
+
+    fn on_type(&mut self, id: TypeRefId) -> Result<(), StoreError>
         ensures { IfOk result (λ _. self.new ≡ after_type self.old id) };
 
-    fn on_lifetime(&mut self, id: LifetimeRefId) -> Result<(), StoreFault>
+    fn on_lifetime(&mut self, id: LifetimeRefId) -> Result<(), StoreError>
         ensures { IfOk result (λ _. self.new ≡ after_lifetime self.old id) };
 
     /// Whether the parts of the arguments follow.
-    fn on_generic_args(&mut self, args: &GenericArgs) -> Result<bool, StoreFault>
-        ensures answer { IfOk result (λ b. b ≡ enters (out-GenericArgs args.now).has_self_type) }
-        ensures same { IfOk result (λ b. self.new ≡ self.old) };
+    fn on_generic_args(&mut self, args: &GenericArgs) -> Result<bool, StoreError>
+        ensures answer { IfOk result (λ b. b ≡ enters self.old args.now) }
+        ensures after { IfOk result (λ b. self.new ≡ after_args self.old args.now) };
 }
 
-fn visit_types<V: StoreVisitor>(visitor: &mut V, mut left: &[TypeRefId]) -> Result<(), StoreFault>
+fn visit_types<V: StoreVisitor>(visitor: &mut V, mut left: &[TypeRefId]) -> Result<(), StoreError>
     ensures { IfOk result (λ _. visitor.new
-        ≡ handed V.after_type V.after_lifetime (of_each spec.of_type left.entry.now) visitor.old) }
+        ≡ handed V.after_type V.after_lifetime V.after_args V.enters (of_each spec.of_type left.entry.now) visitor.old) }
 {
     while let [one, rest @ ..] = left {
         visitor.on_type(*one)?;
@@ -47,8 +49,8 @@ fn visit_types<V: StoreVisitor>(visitor: &mut V, mut left: &[TypeRefId]) -> Resu
     Ok(())
 }
 
-fn visit_arg<V: StoreVisitor>(visitor: &mut V, arg: GenericArg) -> Result<(), StoreFault>
-    ensures { IfOk result (λ _. visitor.new ≡ handed V.after_type V.after_lifetime (spec.of_arg arg) visitor.old) }
+fn visit_arg<V: StoreVisitor>(visitor: &mut V, arg: GenericArg) -> Result<(), StoreError>
+    ensures { IfOk result (λ _. visitor.new ≡ handed V.after_type V.after_lifetime V.after_args V.enters (spec.of_arg arg) visitor.old) }
 {
     match arg {
         GenericArg::Type_(id) => visitor.on_type(id),
@@ -61,9 +63,9 @@ fn visit_arg<V: StoreVisitor>(visitor: &mut V, arg: GenericArg) -> Result<(), St
 fn visit_each_arg<V: StoreVisitor>(
     visitor: &mut V,
     mut left: &[GenericArg],
-) -> Result<(), StoreFault>
+) -> Result<(), StoreError>
     ensures { IfOk result (λ _. visitor.new
-        ≡ handed V.after_type V.after_lifetime (of_each spec.of_arg left.entry.now) visitor.old) }
+        ≡ handed V.after_type V.after_lifetime V.after_args V.enters (of_each spec.of_arg left.entry.now) visitor.old) }
 {
     while let [one, rest @ ..] = left {
         visit_arg(visitor, *one)?;
@@ -72,9 +74,9 @@ fn visit_each_arg<V: StoreVisitor>(
     Ok(())
 }
 
-fn visit_uses<V: StoreVisitor>(visitor: &mut V, mut left: &[UseArgRef]) -> Result<(), StoreFault>
+fn visit_uses<V: StoreVisitor>(visitor: &mut V, mut left: &[UseArgRef]) -> Result<(), StoreError>
     ensures { IfOk result (λ _. visitor.new
-        ≡ handed V.after_type V.after_lifetime (of_each spec.of_use left.entry.now) visitor.old) }
+        ≡ handed V.after_type V.after_lifetime V.after_args V.enters (of_each spec.of_use left.entry.now) visitor.old) }
 {
     while let [one, rest @ ..] = left {
         match one {
@@ -86,8 +88,9 @@ fn visit_uses<V: StoreVisitor>(visitor: &mut V, mut left: &[UseArgRef]) -> Resul
     Ok(())
 }
 
-fn visit_bound<V: StoreVisitor>(visitor: &mut V, bound: &TypeBound) -> Result<(), StoreFault>
-    ensures { IfOk result (λ _. visitor.new ≡ handed V.after_type V.after_lifetime (of_bound bound.now) visitor.old) }
+fn visit_bound<V: StoreVisitor>(visitor: &mut V, bound: &TypeBound) -> Result<(), StoreError>
+    ensures { IfOk result (λ _. visitor.new
+        ≡ handed V.after_type V.after_lifetime V.after_args V.enters (of_bound bound.now) visitor.old) }
 {
     match bound {
         TypeBound::Path(id, _) => visitor.on_type(*id),
@@ -99,8 +102,9 @@ fn visit_bound<V: StoreVisitor>(visitor: &mut V, bound: &TypeBound) -> Result<()
 }
 
 #[tactic(auto, using(crate::proofs::Handed::each_next))]
-fn visit_bounds<V: StoreVisitor>(visitor: &mut V, bounds: &[TypeBound]) -> Result<(), StoreFault>
-    ensures { IfOk result (λ _. visitor.new ≡ handed V.after_type V.after_lifetime (of_each of_bound bounds.now) visitor.old) }
+fn visit_bounds<V: StoreVisitor>(visitor: &mut V, bounds: &[TypeBound]) -> Result<(), StoreError>
+    ensures { IfOk result (λ _. visitor.new
+        ≡ handed V.after_type V.after_lifetime V.after_args V.enters (of_each of_bound bounds.now) visitor.old) }
 {
     for bound in bounds {
         visit_bound(visitor, bound)?;
@@ -111,8 +115,9 @@ fn visit_bounds<V: StoreVisitor>(visitor: &mut V, bounds: &[TypeBound]) -> Resul
 fn visit_type_option<V: StoreVisitor>(
     visitor: &mut V,
     id: Option<TypeRefId>,
-) -> Result<(), StoreFault>
-    ensures { IfOk result (λ _. visitor.new ≡ handed V.after_type V.after_lifetime (of_present spec.of_type id) visitor.old) }
+) -> Result<(), StoreError>
+    ensures { IfOk result (λ _. visitor.new
+        ≡ handed V.after_type V.after_lifetime V.after_args V.enters (of_present spec.of_type id) visitor.old) }
 {
     match id {
         None => Ok(()),
@@ -123,8 +128,9 @@ fn visit_type_option<V: StoreVisitor>(
 fn visit_lifetime_option<V: StoreVisitor>(
     visitor: &mut V,
     id: Option<LifetimeRefId>,
-) -> Result<(), StoreFault>
-    ensures { IfOk result (λ _. visitor.new ≡ handed V.after_type V.after_lifetime (of_present spec.of_lifetime id) visitor.old) }
+) -> Result<(), StoreError>
+    ensures { IfOk result (λ _. visitor.new
+        ≡ handed V.after_type V.after_lifetime V.after_args V.enters (of_present spec.of_lifetime id) visitor.old) }
 {
     match id {
         None => Ok(()),
@@ -134,12 +140,13 @@ fn visit_lifetime_option<V: StoreVisitor>(
 
 /// Hands on the parts of arguments: types and lifetimes, and of those bindings that it goes into theirs.
 #[cycle(visit)]
-#[tactic(auto, using(crate::proofs::Handed::handed_append))]
+#[tactic(auto, using(crate::proofs::Handed::handed_append, crate::proofs::PartLemmas::inside_out))]
 pub fn visit_generic_args<V: StoreVisitor>(
     visitor: &mut V,
     args: &GenericArgs,
-) -> Result<(), StoreFault>
-    ensures { IfOk result (λ _. visitor.new ≡ handed V.after_type V.after_lifetime (inside_args V.enters args.now) visitor.old) }
+) -> Result<(), StoreError>
+    ensures { IfOk result (λ _. visitor.new
+        ≡ handed V.after_type V.after_lifetime V.after_args V.enters (inside_args args.now) visitor.old) }
 {
     visit_each_arg(visitor, args.args.as_slice())?;
     visit_bindings(visitor, args.bindings.as_slice())
@@ -147,9 +154,8 @@ pub fn visit_generic_args<V: StoreVisitor>(
 
 /// Asks whether the parts of arguments follow.
 #[cycle(visit)]
-#[tactic(auto, using(crate::proofs::PartLemmas::args_asked))]
-pub fn visit_asked<V: StoreVisitor>(visitor: &mut V, args: &GenericArgs) -> Result<(), StoreFault>
-    ensures { IfOk result (λ _. visitor.new ≡ handed V.after_type V.after_lifetime (of_args V.enters args.now) visitor.old) }
+pub fn visit_asked<V: StoreVisitor>(visitor: &mut V, args: &GenericArgs) -> Result<(), StoreError>
+    ensures { IfOk result (λ _. visitor.new ≡ handed V.after_type V.after_lifetime V.after_args V.enters (of_args args.now) visitor.old) }
 {
     if visitor.on_generic_args(args)? {
         visit_generic_args(visitor, args)?;
@@ -162,9 +168,9 @@ pub fn visit_asked<V: StoreVisitor>(visitor: &mut V, args: &GenericArgs) -> Resu
 fn visit_bindings<V: StoreVisitor>(
     visitor: &mut V,
     bindings: &[AssociatedTypeBinding],
-) -> Result<(), StoreFault>
+) -> Result<(), StoreError>
     ensures { IfOk result (λ _. visitor.new
-        ≡ handed V.after_type V.after_lifetime (of_each (of_binding V.enters) bindings.now) visitor.old) }
+        ≡ handed V.after_type V.after_lifetime V.after_args V.enters (of_each of_binding bindings.now) visitor.old) }
 {
     for binding in bindings {
         visit_binding(visitor, binding)?;
@@ -177,8 +183,9 @@ fn visit_bindings<V: StoreVisitor>(
 fn visit_binding<V: StoreVisitor>(
     visitor: &mut V,
     binding: &AssociatedTypeBinding,
-) -> Result<(), StoreFault>
-    ensures { IfOk result (λ _. visitor.new ≡ handed V.after_type V.after_lifetime (of_binding V.enters binding.now) visitor.old) }
+) -> Result<(), StoreError>
+    ensures { IfOk result (λ _. visitor.new
+        ≡ handed V.after_type V.after_lifetime V.after_args V.enters (of_binding binding.now) visitor.old) }
 {
     if let Some(args) = &binding.args {
         visit_asked(visitor, args)?;
@@ -190,9 +197,9 @@ fn visit_binding<V: StoreVisitor>(
 fn visit_args_option<V: StoreVisitor>(
     visitor: &mut V,
     args: &Option<GenericArgs>,
-) -> Result<(), StoreFault>
+) -> Result<(), StoreError>
     ensures { IfOk result (λ _. visitor.new
-        ≡ handed V.after_type V.after_lifetime (of_present (of_args V.enters) args.now) visitor.old) }
+        ≡ handed V.after_type V.after_lifetime V.after_args V.enters (of_present of_args args.now) visitor.old) }
 {
     match args {
         None => Ok(()),
@@ -204,9 +211,9 @@ fn visit_args_option<V: StoreVisitor>(
 fn visit_arg_lists<V: StoreVisitor>(
     visitor: &mut V,
     lists: &[Option<GenericArgs>],
-) -> Result<(), StoreFault>
+) -> Result<(), StoreError>
     ensures { IfOk result (λ _. visitor.new
-        ≡ handed V.after_type V.after_lifetime (of_each (of_present (of_args V.enters)) lists.now) visitor.old) }
+        ≡ handed V.after_type V.after_lifetime V.after_args V.enters (of_each (of_present of_args) lists.now) visitor.old) }
 {
     for list in lists {
         visit_args_option(visitor, list)?;
@@ -215,16 +222,16 @@ fn visit_arg_lists<V: StoreVisitor>(
 }
 
 #[tactic(auto, using(crate::proofs::Handed::handed_append))]
-fn visit_normal<V: StoreVisitor>(visitor: &mut V, path: &NormalPath) -> Result<(), StoreFault>
-    ensures { IfOk result (λ _. visitor.new ≡ handed V.after_type V.after_lifetime
-        (of_path V.enters (Path.Normal path.now)) visitor.old) }
+fn visit_normal<V: StoreVisitor>(visitor: &mut V, path: &NormalPath) -> Result<(), StoreError>
+    ensures { IfOk result (λ _. visitor.new
+        ≡ handed V.after_type V.after_lifetime V.after_args V.enters (of_path (Path.Normal path.now)) visitor.old) }
 {
     visit_type_option(visitor, path.type_anchor)?;
     visit_arg_lists(visitor, path.generic_args.as_slice())
 }
 
-fn visit_path<V: StoreVisitor>(visitor: &mut V, path: &Path) -> Result<(), StoreFault>
-    ensures { IfOk result (λ _. visitor.new ≡ handed V.after_type V.after_lifetime (of_path V.enters path.now) visitor.old) }
+fn visit_path<V: StoreVisitor>(visitor: &mut V, path: &Path) -> Result<(), StoreError>
+    ensures { IfOk result (λ _. visitor.new ≡ handed V.after_type V.after_lifetime V.after_args V.enters (of_path path.now) visitor.old) }
 {
     match path {
         Path::BarePath(_) => Ok(()),
@@ -234,8 +241,8 @@ fn visit_path<V: StoreVisitor>(visitor: &mut V, path: &Path) -> Result<(), Store
 }
 
 #[tactic(auto, using(crate::proofs::Handed::handed_append))]
-fn visit_parts<V: StoreVisitor>(visitor: &mut V, ty: &TypeRef) -> Result<(), StoreFault>
-    ensures { IfOk result (λ _. visitor.new ≡ handed V.after_type V.after_lifetime (parts V.enters ty.now) visitor.old) }
+fn visit_parts<V: StoreVisitor>(visitor: &mut V, ty: &TypeRef) -> Result<(), StoreError>
+    ensures { IfOk result (λ _. visitor.new ≡ handed V.after_type V.after_lifetime V.after_args V.enters (parts ty.now) visitor.old) }
 {
     match ty {
         TypeRef::Never => Ok(()),
@@ -263,9 +270,9 @@ pub fn visit_type_ref_children<V: StoreVisitor>(
     store: &ExpressionStore,
     id: TypeRefId,
     visitor: &mut V,
-) -> Result<(), StoreFault>
+) -> Result<(), StoreError>
     ensures { IfOk result (λ _. visitor.new
-        ≡ handed V.after_type V.after_lifetime (parts_found V.enters (slice_get store.now.types id.0)) visitor.old) }
+        ≡ handed V.after_type V.after_lifetime V.after_args V.enters (parts_found (slice_get store.now.types id.0)) visitor.old) }
 {
     match store.type_ref(id) {
         None => Ok(()),

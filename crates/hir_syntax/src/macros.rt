@@ -1,4 +1,4 @@
-//! Calls of macros, and what they are expanded to.
+//! Macro calls, and what they are expanded to.
 
 use crate::ast::{Expr, Path, Stmt};
 use crate::pats::Pat;
@@ -6,7 +6,7 @@ use crate::types::Type_;
 use hir_base::node::{NodeId, TextRange};
 use hir_base::{Boxed, Seq};
 
-/// A call of a macro. Its path is for those who expand it.
+/// A macro call. Its path is for those who expand it.
 #[cycle(ast)]
 pub struct MacroCall {
     pub id: NodeId,
@@ -44,7 +44,7 @@ impl Drop for MacroStmts {
     }
 }
 
-/// What a call of a macro is expanded to.
+/// What a macro call is expanded to.
 #[derive(Drop)]
 pub enum Fragment {
     Expr(Boxed<Expr>),

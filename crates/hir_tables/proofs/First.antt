@@ -8,7 +8,7 @@ use Rattle.std.specs.Map.{lookup, set_value}
 use Rattle.std.specs.Ordering.{is_eq, eq_by_cmp, match_ordering}
 use Rattle.std.proofs.lemmas.Map.{lookup-set_value}
 use Rattle.hir_tables.specs.FirstOf.{found_by, with_first_by, found_below, with_below, with_first_below}
-use Rattle.hir_tables.specs.Laws.{said}
+use Rattle.hir_tables.specs.Theorems.{said}
 
 unsaid : {T : Type 0} (before : Option T) (t : T) → said before false t ≡ before
 unsaid None t = refl

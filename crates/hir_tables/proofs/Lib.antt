@@ -1,3 +1,3 @@
 pub mod First
-pub mod Laws
+pub mod Theorems
 pub mod Written

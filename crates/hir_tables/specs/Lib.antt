@@ -1,3 +1,3 @@
 pub mod FirstOf
-pub mod Laws
+pub mod Theorems
 pub mod Tables

@@ -33,8 +33,8 @@ abbrev pub place_cmp : ℕ × ℕ → ℕ × ℕ → Ordering
 place_cmp x y = ordering_then (nat_cmp x.0 y.0) (nat_cmp x.1 y.1)
 
 -- the first that is said of the node
-abbrev pub found : {T : Type 0} → List ((ℕ × ℕ) × T) → Site → Option T
-found es s = found_by place_cmp es (place s)
+abbrev pub site_value : {T : Type 0} → List ((ℕ × ℕ) × T) → Site → Option T
+site_value es s = found_by place_cmp es (place s)
 
 abbrev pub with_first : {T : Type 0} → List ((ℕ × ℕ) × T) → Site → T → List ((ℕ × ℕ) × T)
 with_first es s t = with_first_by place_cmp es (place s) t
@@ -120,9 +120,9 @@ empty container = record {
   limit = 16;
 }
 
-abbrev pub enabled : Option CfgId → Result (Unit {0}) CfgId
-enabled None = Ok tt
-enabled (Some by) = Err by
+abbrev pub cfg_result : Option CfgId → Result (Unit {0}) CfgId
+cfg_result None = Ok tt
+cfg_result (Some by) = Err by
 
 -- what is said of the context; else it was made in the root, has the hygiene of its own number, came from no macro, and
 -- its crate has no root
@@ -142,16 +142,16 @@ contexts_of es = record {
 }
 
 abbrev pub hygiene_in : List ((ℕ × ℕ) × HygieneId) → Site → HygieneId
-hygiene_in es s = unwrap_or (found es s) (record { 0 = 0 })
+hygiene_in es s = unwrap_or (site_value es s) (record { 0 = 0 })
 
 -- a predicate of which nothing is said is undecided
 abbrev pub if_said : Option (Option Bool) → Option Bool
 if_said None = None
 if_said (Some holds) = holds
 
-abbrev pub decided : List (ℕ × Option Bool) → Option PredId → Option Bool
-decided es None = None
-decided es (Some p) = if_said (number_found es p.0)
+abbrev pub decision_of : List (ℕ × Option Bool) → Option PredId → Option Bool
+decision_of es None = None
+decision_of es (Some p) = if_said (number_found es p.0)
 
 -- a path of which nothing is said stands for nothing
 abbrev pub resolved_in : List (ModPath × List (ℕ × Resolved)) → ModuleId → ModPath → Resolved
@@ -169,15 +169,15 @@ if_expanded expanding (Some answer) = expanding answer
 
 abbrev pub answers_by : {M : Type 0} → (M → Expanding) → Saying M → Answers
 answers_by expanding t = record {
-  cfg = λ s. enabled (found t.disabled s);
+  cfg = λ s. cfg_result (site_value t.disabled s);
   hygiene = λ s. hygiene_in t.hygiene s;
   -- that of its hygiene's number
   context = λ s. record { 0 = (hygiene_in t.hygiene s).0 };
   contexts = contexts_of t.contexts;
   crate_root = λ c. (context_in t.contexts c).crate_root;
   local_inner = local_in t.contexts;
-  cfg_pred = λ pred. decided t.preds pred;
-  block = λ s inside. found t.blocks s;
+  cfg_pred = λ pred. decision_of t.preds pred;
+  block = λ s inside. site_value t.blocks s;
   skip = λ _. t.skip;
   container = λ _. t.container;
   module_of = module_in;
@@ -185,7 +185,7 @@ answers_by expanding t = record {
   alias = alias_found t.aliases;
   lang_items = t.lang_items;
   new_range = λ _. t.new_range;
-  expand = λ s c inside k. if_expanded expanding (found t.macros s);
+  expand = λ s c inside k. if_expanded expanding (site_value t.macros s);
   macro_def = λ inside n. definition_found t.macro_defs inside n;
   legacy_macro = λ inside n k. legacy_found t.legacy inside n k;
   expansion_limit = t.limit;

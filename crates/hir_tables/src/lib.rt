@@ -3,8 +3,8 @@
 //! It stands beside what asks an environment, since whatever may drop a tree is dear to check, and tables hold trees.
 #![tactic(auto)]
 
-ghost use Rattle.hir_tables.specs.Laws.{PathsAsKeys, SamePathsAreOne, NamesAsKeys, PlacesAsKeys};
-ghost use Rattle.hir_tables.specs.Laws.{FirstOfAlias, FirstOfCall, FirstOfDefinition, FirstOfLegacy, FirstOfPath};
+ghost use Rattle.hir_tables.specs.Theorems.{PathsAsKeys, SamePathsAreOne, NamesAsKeys, PlacesAsKeys};
+ghost use Rattle.hir_tables.specs.Theorems.{FirstOfAlias, FirstOfCall, FirstOfDefinition, FirstOfLegacy, FirstOfPath};
 
 mod first_below;
 mod first_of;

@@ -2,9 +2,10 @@
 
 ghost use Rattle.std.specs.Prelude.{◌≡◌, OnOk, OnErr, is_some};
 ghost use Rattle.hir_env.specs.Answers.{Expanding};
-ghost use Rattle.hir_env.specs.Lent.{shown};
+ghost use Rattle.hir_env.specs.Lent.{expanding_of};
 ghost use Rattle.hir_tables.specs.Tables as spec;
-ghost use Rattle.hir_tables.specs.Tables.{found, with_alias, with_first, with_pred, with_context, with_path, with_definition, with_legacy};
+ghost use Rattle.hir_tables.specs.Tables.{site_value, with_alias, with_first, with_pred, with_context, with_path, with_definition};
+ghost use Rattle.hir_tables.specs.Tables.{with_legacy};
 
 use crate::first_below::FirstBelow;
 use crate::first_of::FirstOf;
@@ -14,7 +15,7 @@ use hir_base::node::{HirFileId, InFile, NodeId, PredId};
 use hir_env::env::LowerEnv;
 use hir_env::expand::{Expansion, FragmentKind, OuterMacro};
 use hir_env::lang::LangItems;
-use hir_env::resolved::{Resolved, Shadow};
+use hir_env::resolved::{BuiltinShadowMode, Resolved};
 use hir_store::ids::{
     BlockId, CfgId, CrateId, CtxId, DefWithBodyId, HygieneId, ItemContainerId, MacroDefId,
     ModuleId, TypeAliasId,
@@ -36,7 +37,7 @@ pub struct Context {
     pub crate_root: Option<CrateId>,
 }
 
-/// What is said of a call of a macro.
+/// What is said of a macro call.
 #[derive(Drop)]
 pub enum MacroAnswer {
     Unresolved(ModPath),
@@ -48,14 +49,14 @@ pub enum MacroAnswer {
     },
 }
 
-/// What may be said of a call of a macro.
+/// What may be said of a macro call.
 pub trait ExpandsTo {
     /// What the call is expanded to.
     ghost expanding: { Self → Expanding };
 
     /// Lends what the call is expanded to.
     fn expansion(&self) -> Expansion<'_>
-        ensures { shown result ≡ expanding self.now };
+        ensures { expanding_of result ≡ expanding self.now };
 }
 
 impl ExpandsTo for MacroAnswer {
@@ -99,6 +100,8 @@ pub struct TablesOf<M> {
     macro_defs: FirstBelow<Name, u32, MacroDefId>,
     legacy: FirstBelow<Name, (u32, u32), MacroDefId>,
     limit: u32,
+    /// It is no answer, so contracts don't see it.
+    hash_key: u128,
 }
 
 /// Tables that say of a call what it is expanded to.
@@ -129,6 +132,7 @@ impl<M: Drop> Drop for TablesOf<M> {
             macro_defs: _,
             legacy: _,
             limit: _,
+            hash_key: _,
         } = self;
     }
 }
@@ -162,7 +166,7 @@ impl<M> Model for TablesOf<M> {
 }
 
 impl<M> TablesOf<M> {
-    /// Tables without entries, of a body that is not skipped and stands in the container. All items of the language are
+    /// Tables without entries, of a body that is not skipped and stands in the container. All lang items are
     /// there, numbered in their order, and ranges are made as the older ones.
     pub fn new(alloc: Global, container: ItemContainerId) -> TablesOf<M>
         ensures { result ≡ spec.empty container }
@@ -183,6 +187,7 @@ impl<M> TablesOf<M> {
             macro_defs: FirstBelow::new(alloc),
             legacy: FirstBelow::new(alloc),
             limit: 16,
+            hash_key: 0,
         }
     }
 
@@ -277,7 +282,7 @@ impl<M> TablesOf<M> {
         self.aliases.insert(id.0, alias)
     }
 
-    /// Says which items of the language are there.
+    /// Says which lang items are there.
     pub fn set_lang_items(&mut self, items: LangItems)
         ensures { self.new ≡ record self.old { lang_items = items } }
     {
@@ -286,7 +291,7 @@ impl<M> TablesOf<M> {
 
     /// Whether something is said of the call at a node.
     pub fn has_macro(&self, call: InFile<NodeId>) -> bool
-        ensures { result ≡ is_some (found self.now.macros call) }
+        ensures { result ≡ is_some (site_value self.now.macros call) }
     {
         self.macros.has(place(call))
     }
@@ -323,6 +328,13 @@ impl<M> TablesOf<M> {
         ensures { self.new ≡ record self.old { limit = limit } }
     {
         self.limit = limit;
+    }
+
+    /// Says by which key names are hashed, which is 0 before. It is no answer: all that is said stays as it is.
+    pub fn set_hash_key(&mut self, key: u128)
+        ensures { self.new ≡ self.old }
+    {
+        self.hash_key = key;
     }
 
     /// Says whether ranges are made as the newer items.
@@ -418,7 +430,7 @@ impl<M: ExpandsTo> LowerEnv for TablesOf<M> {
         }
     }
 
-    fn resolve(&self, inside: ModuleId, path: &ModPath, _shadow: Shadow) -> Resolved {
+    fn resolve(&self, inside: ModuleId, path: &ModPath, _shadow: BuiltinShadowMode) -> Resolved {
         let unsaid = Resolved {
             types: None,
             values: None,
@@ -462,5 +474,9 @@ impl<M: ExpandsTo> LowerEnv for TablesOf<M> {
 
     fn expansion_limit(&self) -> u32 {
         self.limit
+    }
+
+    fn hash_key(&self) -> u128 {
+        self.hash_key
     }
 }

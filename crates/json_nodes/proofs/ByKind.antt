@@ -1,11 +1,11 @@
 -- What a node of a kind says is what the group of its kind reads.
 use Rattle.std.proofs.Common.{◌≡◌, ◌⊎◌, inl, inr, refl}
-use Rattle.json_kinds.specs.declared.kind.PathNode.{PathNode}
-use Rattle.json_kinds.specs.declared.kind.PathNode.TheVariants as path_kind
-use Rattle.json_kinds.specs.declared.kind.PatNode.{PatNode}
-use Rattle.json_kinds.specs.declared.kind.PatNode.TheVariants as pat_kind
-use Rattle.json_kinds.specs.declared.kind.TypeNode.{TypeNode}
-use Rattle.json_kinds.specs.declared.kind.TypeNode.TheVariants as type_kind
+use Rattle.json_errors.specs.declared.kind.PathNode.{PathNode}
+use Rattle.json_errors.specs.declared.kind.PathNode.TheVariants as path_kind
+use Rattle.json_errors.specs.declared.kind.PatNode.{PatNode}
+use Rattle.json_errors.specs.declared.kind.PatNode.TheVariants as pat_kind
+use Rattle.json_errors.specs.declared.kind.TypeNode.{TypeNode}
+use Rattle.json_errors.specs.declared.kind.TypeNode.TheVariants as type_kind
 use Rattle.json_nodes.specs.Args.{arg, arg_list, of_args}
 use Rattle.json_nodes.specs.Parts.{Here}
 use Rattle.json_nodes.specs.Pats.{named, around, pieces, values, partless_pat, of_pat}

@@ -4,9 +4,9 @@ use Rattle.serde_json.specs.Find.{get}
 use Rattle.hir_syntax.specs.declared.types.AssocTypeArg.{AssocTypeArg, roll-AssocTypeArg}
 use Rattle.hir_syntax.specs.declared.types.GenericArg.TheVariants as arguments
 use Rattle.hir_syntax.specs.declared.types.LifetimeArg.{LifetimeArg}
-use Rattle.json_kinds.specs.ByWord.{or_else}
-use Rattle.json_kinds.specs.declared.kind.PathNode.{PathNode}
-use Rattle.json_kinds.specs.declared.kind.PathNode.TheVariants as kind
+use Rattle.json_errors.specs.ByWord.{or_else}
+use Rattle.json_errors.specs.declared.kind.PathNode.{PathNode}
+use Rattle.json_errors.specs.declared.kind.PathNode.TheVariants as kind
 use Rattle.json_nodes.specs.Fields.{flag_of}
 use Rattle.json_nodes.specs.Groups.{as_expr, as_type, as_name, as_lifetime, as_generic_args, as_generic_arg, as_type_arg, as_bound}
 use Rattle.json_nodes.specs.Parts.{Here, part_in, list_in}

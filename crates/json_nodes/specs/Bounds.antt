@@ -4,9 +4,9 @@ use Rattle.serde_json.specs.Find.{get}
 use Rattle.hir_syntax.specs.declared.types.BoundKind.{BoundKind}
 use Rattle.hir_syntax.specs.declared.types.BoundKind.TheVariants as bound_kinds
 use Rattle.hir_syntax.specs.declared.types.TypeBound.{TypeBound, roll-TypeBound}
-use Rattle.json_kinds.specs.ByWord.{with_word}
-use Rattle.json_kinds.specs.declared.kind.PartNode.{PartNode}
-use Rattle.json_kinds.specs.declared.kind.PartNode.TheVariants as kind
+use Rattle.json_errors.specs.ByWord.{with_word}
+use Rattle.json_errors.specs.declared.kind.PartNode.{PartNode}
+use Rattle.json_errors.specs.declared.kind.PartNode.TheVariants as kind
 use Rattle.json_nodes.specs.Fields.{flag_of, text_in}
 use Rattle.json_nodes.specs.Groups.{as_type, as_path_type, as_binder, as_lifetime, as_use_arg}
 use Rattle.json_nodes.specs.Parts.{Here, part_in, list_in, list_with_nulls_in}

@@ -2,10 +2,10 @@
 use Rattle.std.specs.Prelude.{codes, Option, Some, None}
 use Rattle.hir_syntax.specs.declared.ast.ExprKind.TheVariants as expr
 use Rattle.hir_syntax.specs.declared.branches.MatchArm.{roll-MatchArm}
-use Rattle.json_kinds.specs.declared.kind.ExprNode.{ExprNode}
-use Rattle.json_kinds.specs.declared.kind.ExprNode.TheVariants as kind
-use Rattle.json_kinds.specs.declared.kind.PartNode.{PartNode}
-use Rattle.json_kinds.specs.declared.kind.PartNode.TheVariants as part_kind
+use Rattle.json_errors.specs.declared.kind.ExprNode.{ExprNode}
+use Rattle.json_errors.specs.declared.kind.ExprNode.TheVariants as kind
+use Rattle.json_errors.specs.declared.kind.PartNode.{PartNode}
+use Rattle.json_errors.specs.declared.kind.PartNode.TheVariants as part_kind
 use Rattle.json_nodes.specs.Exprs.{whole_expr}
 use Rattle.json_nodes.specs.Groups.{as_expr, as_block, as_pat, as_arm, as_guard}
 use Rattle.json_nodes.specs.Parts.{Here, part_in, list_if_there}

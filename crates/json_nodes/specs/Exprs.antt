@@ -5,9 +5,9 @@ use Rattle.serde_json.specs.Find.{get}
 use Rattle.hir_syntax.specs.declared.ast.ExprKind.{ExprKind}
 use Rattle.hir_syntax.specs.declared.ast.ExprKind.TheVariants as expr
 use Rattle.hir_base.specs.declared.node.PredId.{PredId}
-use Rattle.json_faults.specs.Values.{small_of}
-use Rattle.json_kinds.specs.declared.kind.ExprNode.{ExprNode}
-use Rattle.json_kinds.specs.declared.kind.ExprNode.TheVariants as kind
+use Rattle.json_errors.specs.Values.{small_of}
+use Rattle.json_errors.specs.declared.kind.ExprNode.{ExprNode}
+use Rattle.json_errors.specs.declared.kind.ExprNode.TheVariants as kind
 use Rattle.hir_base.specs.declared.node.NodeId.{NodeId}
 use Rattle.hir_base.specs.declared.node.TextRange.{TextRange}
 use Rattle.json_nodes.specs.Groups.{as_expr, as_block, as_else, as_macro_call, as_pat, as_path, as_label, as_lifetime, as_name}

@@ -2,7 +2,7 @@
 use Rattle.std.specs.Prelude.{ℕ, ◌^◌, ◌+◌, ◌-◌, min, List, Bool, false, Option, Some, None, option_and_then, unwrap_or}
 use Rattle.serde_json.specs.Data.{Data, Items, no_items, item}
 use Rattle.serde_json.specs.Find.{as_bool, as_str, as_array, get}
-use Rattle.json_faults.specs.Values.{small_of}
+use Rattle.json_errors.specs.Values.{small_of}
 use Rattle.hir_base.specs.declared.node.TextRange.{TextRange}
 
 -- a number of 32 bits, which is another where none is said

@@ -17,3 +17,7 @@ pub mod Bounds
 pub mod Params
 pub mod Others
 pub mod Macros
+pub mod Listed
+pub mod Lists
+pub mod Generics
+pub mod Items

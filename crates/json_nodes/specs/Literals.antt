@@ -5,7 +5,7 @@ use Rattle.hir_syntax.specs.declared.ast.Literal.{Literal}
 use Rattle.hir_base.specs.declared.op.LiteralKind.{LiteralKind}
 use Rattle.hir_base.specs.declared.op.LiteralKind.TheVariants as literal
 use Rattle.json_nodes.specs.Fields.{text_in}
-use Rattle.json_kinds.specs.ByWord.{with_word}
+use Rattle.json_errors.specs.ByWord.{with_word}
 
 -- the word of a kind of literals
 abbrev pub literal_word : LiteralKind → List ℕ

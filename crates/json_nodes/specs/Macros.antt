@@ -1,8 +1,8 @@
--- Calls of macros, and the statements that one may be expanded to.
+-- Macro calls, and the statements that one may be expanded to.
 use Rattle.std.specs.Prelude.{codes, Option, Some, None}
 use Rattle.hir_syntax.specs.declared.macros.MacroCall.{roll-MacroCall}
-use Rattle.json_kinds.specs.declared.kind.PartNode.{PartNode}
-use Rattle.json_kinds.specs.declared.kind.PartNode.TheVariants as kind
+use Rattle.json_errors.specs.declared.kind.PartNode.{PartNode}
+use Rattle.json_errors.specs.declared.kind.PartNode.TheVariants as kind
 use Rattle.json_nodes.specs.Groups.{as_expr, as_path, as_stmt}
 use Rattle.json_nodes.specs.Parts.{Here, part_in, list_in}
 use Rattle.json_nodes.specs.Any.{CodePart}

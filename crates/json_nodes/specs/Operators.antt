@@ -16,7 +16,7 @@ use Rattle.hir_base.specs.declared.op.RangeOp.TheVariants as range
 use Rattle.hir_base.specs.declared.op.UnaryOp.{UnaryOp}
 use Rattle.hir_base.specs.declared.op.UnaryOp.TheVariants as unary
 use Rattle.json_nodes.specs.Fields.{text_in}
-use Rattle.json_kinds.specs.ByWord.{with_word, or_else}
+use Rattle.json_errors.specs.ByWord.{with_word, or_else}
 
 abbrev unary_word : UnaryOp → List ℕ
 unary_word unary.Deref = codes "*"

@@ -6,11 +6,11 @@ use Rattle.hir_syntax.specs.declared.ast.StmtKind.TheVariants as stmt
 use Rattle.hir_syntax.specs.declared.ast.BlockExpr.{roll-BlockExpr}
 use Rattle.hir_syntax.specs.declared.ast.BlockModifier.{BlockModifier}
 use Rattle.hir_syntax.specs.declared.ast.BlockModifier.TheVariants as modifiers
-use Rattle.json_kinds.specs.ByWord.{with_word}
-use Rattle.json_kinds.specs.declared.kind.StmtNode.{StmtNode}
-use Rattle.json_kinds.specs.declared.kind.StmtNode.TheVariants as stmt_kind
-use Rattle.json_kinds.specs.declared.kind.PartNode.{PartNode}
-use Rattle.json_kinds.specs.declared.kind.PartNode.TheVariants as kind
+use Rattle.json_errors.specs.ByWord.{with_word}
+use Rattle.json_errors.specs.declared.kind.StmtNode.{StmtNode}
+use Rattle.json_errors.specs.declared.kind.StmtNode.TheVariants as stmt_kind
+use Rattle.json_errors.specs.declared.kind.PartNode.{PartNode}
+use Rattle.json_errors.specs.declared.kind.PartNode.TheVariants as kind
 use Rattle.json_nodes.specs.Fields.{flag_of, text_in}
 use Rattle.json_nodes.specs.Groups.{as_expr, as_stmt, as_label, as_let_else, as_lifetime, as_name, as_pat, as_type}
 use Rattle.json_nodes.specs.Parts.{Here, part_in, list_in}

@@ -4,8 +4,8 @@ use Rattle.serde_json.specs.Find.{get}
 use Rattle.hir_syntax.specs.declared.types.Param.{roll-Param}
 use Rattle.hir_syntax.specs.declared.params.SelfParam.{SelfParam}
 use Rattle.hir_syntax.specs.declared.params.ParamList.{ParamList}
-use Rattle.json_kinds.specs.declared.kind.PartNode.{PartNode}
-use Rattle.json_kinds.specs.declared.kind.PartNode.TheVariants as kind
+use Rattle.json_errors.specs.declared.kind.PartNode.{PartNode}
+use Rattle.json_errors.specs.declared.kind.PartNode.TheVariants as kind
 use Rattle.json_nodes.specs.Fields.{flag_of}
 use Rattle.json_nodes.specs.Groups.{as_name, as_lifetime, as_pat, as_type, as_param, as_self_param}
 use Rattle.json_nodes.specs.Parts.{Here, part_in, list_in}

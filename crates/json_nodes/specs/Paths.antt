@@ -5,9 +5,9 @@ use Rattle.hir_syntax.specs.declared.ast.Path.{Path, roll-Path}
 use Rattle.hir_syntax.specs.declared.ast.PathSegment.{PathSegment, roll-PathSegment}
 use Rattle.hir_syntax.specs.declared.ast.SegmentKind.{SegmentKind}
 use Rattle.hir_syntax.specs.declared.ast.SegmentKind.TheVariants as written
-use Rattle.json_kinds.specs.ByWord.{with_word}
-use Rattle.json_kinds.specs.declared.kind.PathNode.{PathNode}
-use Rattle.json_kinds.specs.declared.kind.PathNode.TheVariants as kind
+use Rattle.json_errors.specs.ByWord.{with_word}
+use Rattle.json_errors.specs.declared.kind.PathNode.{PathNode}
+use Rattle.json_errors.specs.declared.kind.PathNode.TheVariants as kind
 use Rattle.json_nodes.specs.Fields.{flag_of, text_in}
 use Rattle.json_nodes.specs.Groups.{as_path, as_segment, as_name, as_generic_args, as_paren_args, as_ret, as_type, as_path_type}
 use Rattle.json_nodes.specs.Parts.{Here, part_in, list_with_nulls_in}

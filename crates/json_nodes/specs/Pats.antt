@@ -3,9 +3,9 @@ use Rattle.std.specs.Prelude.{codes, Option, Some, None, option_map}
 use Rattle.serde_json.specs.Find.{get}
 use Rattle.hir_syntax.specs.declared.pats.PatKind.{PatKind}
 use Rattle.hir_syntax.specs.declared.pats.PatKind.TheVariants as pat
-use Rattle.json_kinds.specs.ByWord.{or_else}
-use Rattle.json_kinds.specs.declared.kind.PatNode.{PatNode}
-use Rattle.json_kinds.specs.declared.kind.PatNode.TheVariants as kind
+use Rattle.json_errors.specs.ByWord.{or_else}
+use Rattle.json_errors.specs.declared.kind.PatNode.{PatNode}
+use Rattle.json_errors.specs.declared.kind.PatNode.TheVariants as kind
 use Rattle.hir_base.specs.declared.node.NodeId.{NodeId}
 use Rattle.hir_base.specs.declared.node.TextRange.{TextRange}
 use Rattle.json_nodes.specs.Exprs.{pred_in}
@@ -60,7 +60,7 @@ pieces h kind.SlicePat = Some (whole_pat h (pat.SlicePat
     (list_in h as_pat (codes "suffix"))))
 pieces h _ = None
 
--- values, ranges between two, and calls of macros
+-- values, ranges between two, and macro calls
 unfoldable pub values : Here → PatNode → Option PatPart
 values h kind.LiteralPat =
     Some (whole_pat h (pat.LiteralPat (part_in h as_pat_literal (codes "lit")) (flag_of (get (codes "minus") h.value))))

@@ -6,10 +6,10 @@ use Rattle.hir_syntax.specs.declared.ast.ExprKind.TheVariants as expr
 use Rattle.hir_syntax.specs.declared.ast.RecordExprFieldList.{roll-RecordExprFieldList}
 use Rattle.hir_syntax.specs.declared.ast.RecordExprField.{roll-RecordExprField}
 use Rattle.hir_syntax.specs.declared.pats.RecordPatField.{roll-RecordPatField}
-use Rattle.json_kinds.specs.declared.kind.ExprNode.{ExprNode}
-use Rattle.json_kinds.specs.declared.kind.ExprNode.TheVariants as kind
-use Rattle.json_kinds.specs.declared.kind.PartNode.{PartNode}
-use Rattle.json_kinds.specs.declared.kind.PartNode.TheVariants as part_kind
+use Rattle.json_errors.specs.declared.kind.ExprNode.{ExprNode}
+use Rattle.json_errors.specs.declared.kind.ExprNode.TheVariants as kind
+use Rattle.json_errors.specs.declared.kind.PartNode.{PartNode}
+use Rattle.json_errors.specs.declared.kind.PartNode.TheVariants as part_kind
 use Rattle.json_nodes.specs.Fields.{flag_of}
 use Rattle.json_nodes.specs.Exprs.{whole_expr}
 use Rattle.json_nodes.specs.Groups.{as_expr, as_name, as_param, as_pat, as_path, as_ret, as_type, as_record_list, as_record_field}

@@ -4,9 +4,9 @@ use Rattle.serde_json.specs.Find.{get}
 use Rattle.hir_syntax.specs.declared.types.TypeKind.{TypeKind}
 use Rattle.hir_syntax.specs.declared.types.TypeKind.TheVariants as type_kinds
 use Rattle.hir_syntax.specs.declared.types.PathType.{roll-PathType}
-use Rattle.json_kinds.specs.ByWord.{or_else}
-use Rattle.json_kinds.specs.declared.kind.TypeNode.{TypeNode}
-use Rattle.json_kinds.specs.declared.kind.TypeNode.TheVariants as kind
+use Rattle.json_errors.specs.ByWord.{or_else}
+use Rattle.json_errors.specs.declared.kind.TypeNode.{TypeNode}
+use Rattle.json_errors.specs.declared.kind.TypeNode.TheVariants as kind
 use Rattle.hir_base.specs.declared.node.NodeId.{NodeId}
 use Rattle.hir_base.specs.declared.node.TextRange.{TextRange}
 use Rattle.json_nodes.specs.Fields.{flag_of, text_in}

@@ -14,7 +14,7 @@ use crate::path_parts::{GenericArgLists, GenericArgs, PathPart, TypeArgs};
 use crate::type_parts::{Bounds, Types};
 use hir_base::Boxed;
 use hir_syntax::ast::{AssocTypeArg, GenericArg, LifetimeArg};
-use json_kinds::kind::PathNode;
+use json_errors::kind::PathNode;
 
 #[inline(never)]
 #[tactic(auto, unfolding(crate::specs::Args::assoc_arg))]

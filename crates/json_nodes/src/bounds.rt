@@ -13,8 +13,8 @@ use crate::part::in_box;
 use crate::type_parts::{Binders, Bounds, PathTypes, TypePart, Types};
 use hir_base::Boxed;
 use hir_syntax::ast::{BoundKind, ForBinder, TypeBound};
-use json_faults::members::Own;
-use json_kinds::kind::PartNode;
+use json_errors::kind::PartNode;
+use json_errors::members::Own;
 
 /// The kind with that word.
 fn bound_kind_of(word: &str) -> Option<BoundKind>

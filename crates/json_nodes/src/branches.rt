@@ -9,7 +9,7 @@ use crate::fields::{AllIfThere, Fields, InBox, One};
 use crate::param_parts::Pats;
 use crate::part::whole;
 use hir_syntax::ast::{ExprKind, MatchArm};
-use json_kinds::kind::{ExprNode, PartNode};
+use json_errors::kind::{ExprNode, PartNode};
 
 /// `let` as a condition, and `match`.
 #[inline(never)]

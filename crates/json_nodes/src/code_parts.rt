@@ -81,7 +81,7 @@ pub struct RecordLists;
 /// Fields of a record.
 pub struct RecordFields;
 
-/// Calls of macros.
+/// Macro calls.
 pub struct MacroCalls;
 
 /// Statements with an expression behind them.

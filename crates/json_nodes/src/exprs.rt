@@ -13,7 +13,7 @@ use crate::param_parts::Pats;
 use crate::part::{in_box, whole};
 use crate::path_parts::Paths;
 use hir_syntax::ast::{Expr, ExprKind};
-use json_kinds::kind::ExprNode;
+use json_errors::kind::ExprNode;
 
 #[tactic(auto, unfolding(crate::specs::Exprs::if_expr))]
 fn if_expr<F: Fields>(node: &F, refused: &mut bool) -> ExprKind

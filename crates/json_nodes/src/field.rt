@@ -7,8 +7,8 @@ ghost use Rattle.json_nodes.specs.Fields.{number_or, range_in, range_of, flag_of
 
 use hir_base::Text;
 use hir_base::node::TextRange;
-use json_faults::members::Own;
-use json_faults::value::small;
+use json_errors::members::Own;
+use json_errors::value::small;
 use serde_json::Value;
 use std::alloc::{AllocError, Global};
 

@@ -12,7 +12,7 @@ use crate::part::{AnyPart, BoxedGroup, Group, ReadParts};
 use hir_base::node::{NodeId, TextRange};
 use hir_base::{Boxed, Seq, Text};
 use hir_syntax::ast::Param;
-use json_faults::members::Own;
+use json_errors::members::Own;
 use std::alloc::Global;
 use std::marker::PhantomData;
 

@@ -8,7 +8,7 @@ use crate::code_parts::{ExprPart, Exprs};
 use crate::fields::{Fields, InBox};
 use crate::part::whole;
 use hir_syntax::ast::ExprKind;
-use json_kinds::kind::ExprNode;
+use json_errors::kind::ExprNode;
 
 /// `return`, `become`, `yield`, `do yeet` and `.await`.
 #[inline(never)]

@@ -8,7 +8,7 @@ ghost use Rattle.json_nodes.specs.Literals.{literal_kind_of, kind_in, literal_of
 use crate::field;
 use hir_base::Text;
 use hir_syntax::ast::{Literal, LiteralKind};
-use json_faults::members::Own;
+use json_errors::members::Own;
 use std::alloc::{AllocError, Global};
 
 /// The kind with that word.

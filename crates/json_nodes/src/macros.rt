@@ -1,4 +1,4 @@
-//! Calls of macros, and the statements that one may be expanded to.
+//! Macro calls, and the statements that one may be expanded to.
 
 ghost use Rattle.std.specs.Prelude.{◌≡◌};
 ghost use Rattle.json_nodes.specs.Kept.{Kept};
@@ -8,9 +8,9 @@ use crate::code_parts::{CodePart, Exprs, Stmts};
 use crate::fields::{All, Fields, InBox};
 use crate::path_parts::Paths;
 use hir_syntax::ast::{MacroCall, MacroStmts};
-use json_kinds::kind::PartNode;
+use json_errors::kind::PartNode;
 
-/// A call of a macro, or statements with an expression behind them.
+/// A macro call, or statements with an expression behind them.
 #[inline(never)]
 #[tactic(auto, unfolding(crate::specs::Macros::of_macro))]
 pub fn of_macro<F: Fields>(node: &F, refused: &mut bool, kind: PartNode) -> Option<CodePart>

@@ -11,7 +11,7 @@ use crate::name_parts::Names;
 use crate::part::whole;
 use crate::path_parts::GenericArgLists;
 use hir_syntax::ast::ExprKind;
-use json_kinds::kind::ExprNode;
+use json_errors::kind::ExprNode;
 
 /// An array, which with a semicolon repeats one part.
 #[tactic(auto, unfolding(crate::specs::Exprs::array))]

@@ -12,8 +12,8 @@ use crate::name_parts::NamePart;
 use crate::part::{AnyPart, BoxedGroup, Group, LetsGo, ReadParts, in_box, served};
 use hir_base::node::{NodeId, TextRange};
 use hir_base::{Boxed, Seq, Text};
-use json_faults::members::Own;
-use json_faults::value::small;
+use json_errors::members::Own;
+use json_errors::value::small;
 use serde_json::Value;
 use std::alloc::Global;
 use std::marker::PhantomData;
@@ -118,7 +118,7 @@ impl<G: Group<AnyPart>> Item for OrNull<G> {
 
 /// What was read, as a part of the group. It has a frame of its own, since no level stands on it.
 #[inline(never)]
-fn told<A, G: Group<A>, P: LetsGo<A>>(parts: &P, read: Option<A>) -> Option<G::Part>
+fn emitted<A, G: Group<A>, P: LetsGo<A>>(parts: &P, read: Option<A>) -> Option<G::Part>
     ensures { result ≡ option_and_then G.as_group read }
 {
     served::<A, G, P>(parts, read?)
@@ -126,7 +126,7 @@ fn told<A, G: Group<A>, P: LetsGo<A>>(parts: &P, read: Option<A>) -> Option<G::P
 
 /// The same in a box.
 #[inline(never)]
-fn told_in_box<G: BoxedGroup, P: LetsGo<AnyPart>>(
+fn emitted_in_box<G: BoxedGroup, P: LetsGo<AnyPart>>(
     alloc: Global,
     parts: &P,
     refused: &mut bool,
@@ -134,7 +134,7 @@ fn told_in_box<G: BoxedGroup, P: LetsGo<AnyPart>>(
 ) -> Option<Boxed<G::Part>>
     ensures { Kept refused.old refused.new (result ≡ option_and_then G.as_group read) }
 {
-    match told::<AnyPart, G, P>(parts, read) {
+    match emitted::<AnyPart, G, P>(parts, read) {
         Some(part) => in_box::<G>(alloc, refused, part),
         None => None,
     }
@@ -187,7 +187,7 @@ impl<P: ReadParts> Node<'_, P> {
         let Some(at) = small(value) else {
             return None;
         };
-        told::<AnyPart, G, P>(self.parts, self.parts.part_at(self.alloc, refused, at))
+        emitted::<AnyPart, G, P>(self.parts, self.parts.part_at(self.alloc, refused, at))
     }
 
     /// The same in a box. Only the box stands in the frames below a level.
@@ -207,7 +207,7 @@ impl<P: ReadParts> Node<'_, P> {
             return None;
         };
         let read = self.parts.part_at(self.alloc, refused, at);
-        told_in_box::<G, P>(self.alloc, self.parts, refused, read)
+        emitted_in_box::<G, P>(self.alloc, self.parts, refused, read)
     }
 
     /// The part in a field.

@@ -10,7 +10,7 @@ use crate::fields::{Fields, InBox};
 use crate::operators::{binary_op, unary_op};
 use crate::part::whole;
 use hir_syntax::ast::ExprKind;
-use json_kinds::kind::ExprNode;
+use json_errors::kind::ExprNode;
 
 /// Operators, references and indexes.
 #[inline(never)]

@@ -4,11 +4,11 @@ ghost use Rattle.std.specs.Prelude.{◌≡◌};
 ghost use Rattle.serde_json.specs.View.{view};
 ghost use Rattle.json_nodes.specs.Operators as spec;
 ghost use Rattle.json_nodes.specs.Operators.{logic_word, logic_ops, cmp_word, cmp_ops, arith_word, assigned_word, arith_ops};
-ghost use Rattle.json_kinds.specs.ByWord.{with_word};
+ghost use Rattle.json_errors.specs.ByWord.{with_word};
 
 use crate::field::text;
 use hir_syntax::ast::{ArithOp, BinaryOp, CmpOp, LogicOp, Ordering, RangeOp, UnaryOp};
-use json_faults::members::Own;
+use json_errors::members::Own;
 
 fn unary_op_with(word: &str) -> Option<UnaryOp>
     ensures { result ≡ spec.unary_op_of word.now }

@@ -13,8 +13,8 @@ use crate::name_parts::{Labels, Lifetimes, NamePart, Names};
 use crate::param_parts::Pats;
 use crate::type_parts::Types;
 use hir_syntax::ast::{BlockExpr, BlockModifier, Label, Lifetime, Name, Stmt, StmtKind};
-use json_faults::members::Own;
-use json_kinds::kind::{PartNode, StmtNode};
+use json_errors::kind::{PartNode, StmtNode};
+use json_errors::members::Own;
 
 #[tactic(auto, unfolding(crate::specs::Others::statement))]
 fn statement<F: Fields>(node: &F, refused: &mut bool, kind: StmtNode) -> StmtKind

@@ -12,7 +12,7 @@ use crate::part::in_box;
 use crate::type_parts::Types;
 use hir_base::Boxed;
 use hir_syntax::ast::{Param, ParamList, SelfParam};
-use json_kinds::kind::PartNode;
+use json_errors::kind::PartNode;
 
 #[inline(never)]
 #[tactic(auto, unfolding(crate::specs::Params::self_param))]

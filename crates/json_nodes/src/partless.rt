@@ -11,9 +11,9 @@ use crate::fields::Fields;
 use crate::part::whole;
 use hir_base::node::PredId;
 use hir_syntax::ast::ExprKind;
-use json_faults::members::Own;
-use json_faults::value::small;
-use json_kinds::kind::ExprNode;
+use json_errors::kind::ExprNode;
+use json_errors::members::Own;
+use json_errors::value::small;
 
 /// The predicate that a node names.
 pub fn pred(node: &Own<'_>) -> Option<PredId>

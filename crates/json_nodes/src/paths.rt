@@ -14,8 +14,8 @@ use crate::path_parts::{GenericArgLists, ParenArgLists, PathPart, Paths, Segment
 use crate::type_parts::{PathTypes, Rets, Types};
 use hir_base::Boxed;
 use hir_syntax::ast::{Path, PathSegment, SegmentKind};
-use json_faults::members::Own;
-use json_kinds::kind::PathNode;
+use json_errors::kind::PathNode;
+use json_errors::members::Own;
 
 /// The kind with that word.
 fn segment_kind_of(word: &str) -> Option<SegmentKind>

@@ -14,7 +14,7 @@ use crate::part::whole;
 use crate::partless::pred;
 use crate::path_parts::Paths;
 use hir_syntax::ast::PatKind;
-use json_kinds::kind::PatNode;
+use json_errors::kind::PatNode;
 
 /// Names and paths, and tuples behind a path or without one.
 #[inline(never)]
@@ -126,7 +126,7 @@ fn pieces<F: Fields>(node: &F, refused: &mut bool, kind: PatNode) -> Option<PatP
     }
 }
 
-/// Values, ranges between two, and calls of macros.
+/// Values, ranges between two, and macro calls.
 #[inline(never)]
 #[tactic(auto, unfolding(crate::specs::Pats::values))]
 fn values<F: Fields>(node: &F, refused: &mut bool, kind: PatNode) -> Option<PatPart>

@@ -13,7 +13,7 @@ use crate::part::whole;
 use crate::path_parts::Paths;
 use crate::type_parts::{Rets, Types};
 use hir_syntax::ast::{ExprKind, RecordExprField, RecordExprFieldList, RecordPatField};
-use json_kinds::kind::{ExprNode, PartNode};
+use json_errors::kind::{ExprNode, PartNode};
 
 #[tactic(auto, unfolding(crate::specs::Typed::closure))]
 fn closure<F: Fields>(node: &F, refused: &mut bool) -> ExprKind

@@ -13,7 +13,7 @@ use crate::part::whole;
 use crate::path_parts::{ConstArgs, Paths};
 use crate::type_parts::{Binders, Bounds, Rets, TypePart, Types};
 use hir_syntax::ast::{PathType, TypeKind};
-use json_kinds::kind::TypeNode;
+use json_errors::kind::TypeNode;
 
 #[inline(never)]
 #[tactic(auto, unfolding(crate::specs::Types::over_types))]

@@ -1,12 +1,12 @@
 -- What a node of a kind says is what the group of its kind reads.
 use Rattle.std.proofs.Common.{◌≡◌, ◌⊎◌, inl, inr, refl}
 use Rattle.std.specs.Prelude.{option_map}
-use Rattle.json_kinds.specs.declared.kind.ExprNode.{ExprNode}
-use Rattle.json_kinds.specs.declared.kind.ExprNode.TheVariants as expr_kind
-use Rattle.json_kinds.specs.declared.kind.PartNode.{PartNode}
-use Rattle.json_kinds.specs.declared.kind.PartNode.TheVariants as part_kind
-use Rattle.json_kinds.specs.declared.kind.PathNode.{PathNode}
-use Rattle.json_kinds.specs.declared.kind.PathNode.TheVariants as path_kind
+use Rattle.json_errors.specs.declared.kind.ExprNode.{ExprNode}
+use Rattle.json_errors.specs.declared.kind.ExprNode.TheVariants as expr_kind
+use Rattle.json_errors.specs.declared.kind.PartNode.{PartNode}
+use Rattle.json_errors.specs.declared.kind.PartNode.TheVariants as part_kind
+use Rattle.json_errors.specs.declared.kind.PathNode.{PathNode}
+use Rattle.json_errors.specs.declared.kind.PathNode.TheVariants as path_kind
 use Rattle.json_nodes.specs.Args.{arg, arg_list, of_args}
 use Rattle.json_nodes.specs.Bounds.{of_bound}
 use Rattle.json_nodes.specs.Branches.{branching, of_branch}

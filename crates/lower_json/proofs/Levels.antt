@@ -3,8 +3,8 @@ use Rattle.std.proofs.Common.{◌≡◌, ◌∙◌, ℕ, suc, zero, Bool, List, 
 use Rattle.std.specs.Prelude.{option_and_then}
 use Rattle.serde_json.specs.Data.{Data, Items}
 use Rattle.serde_json.specs.Find.{get_item}
-use Rattle.json_faults.specs.Kinds.{kind_at}
-use Rattle.json_kinds.specs.declared.kind.Kind.{Kind}
+use Rattle.json_errors.specs.Kinds.{kind_at}
+use Rattle.json_errors.specs.declared.kind.Kind.{Kind}
 use Rattle.lower_json.specs.Reading.{part_at, of_kind}
 use Rattle.json_nodes.specs.Kept.{Kept}
 use Rattle.json_nodes.specs.Nodes.{node_at}

@@ -2,7 +2,7 @@
 use Rattle.std.proofs.Common.{◌≡◌, ◌≢◌, ◌<◌, ◌≤◌, List, [], ◌∷◌, length, refl, arith, Option, Some, None}
 use Rattle.serde_json.specs.View.{items_view}
 use Rattle.serde_json.specs.declared.value.Value.{Value}
-use Rattle.json_kinds.specs.declared.kind.Kind.{Kind}
+use Rattle.json_errors.specs.declared.kind.Kind.{Kind}
 use Rattle.serde_json.specs.Data.{Items}
 use Rattle.hir_tables.specs.declared.table.MacroAnswer.TheVariants as answer
 use Rattle.lower_json.specs.Aliases.{pair_in}

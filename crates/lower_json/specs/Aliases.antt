@@ -2,9 +2,9 @@
 use Rattle.std.specs.Prelude.{ℕ, List, Option, Some, None, codes, option_and_then}
 use Rattle.serde_json.specs.Data.{Data, Items, no_items, item}
 use Rattle.serde_json.specs.Find.{as_array}
-use Rattle.hir_items.specs.declared.ast.TypeAlias.{TypeAlias}
-use Rattle.json_faults.specs.Values.{small_of}
-use Rattle.json_kinds.specs.declared.kind.Kind.{Kind}
+use Rattle.hir_syntax.specs.declared.items.TypeAlias.{TypeAlias}
+use Rattle.json_errors.specs.Values.{small_of}
+use Rattle.json_errors.specs.declared.kind.Kind.{Kind}
 use Rattle.json_nodes.specs.Parts.{all_read}
 use Rattle.lower_json.specs.Reading.{alias_at}
 use Rattle.lower_json.specs.Tables.{rows}

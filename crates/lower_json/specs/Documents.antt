@@ -9,18 +9,18 @@ use Rattle.hir_store.specs.declared.ids.DefWithBodyId.TheVariants as owner
 use Rattle.hir_store.specs.declared.ids.ItemContainerId.{ItemContainerId}
 use Rattle.hir_store.specs.declared.ids.ItemContainerId.TheVariants as holder
 use Rattle.hir_tables.specs.Tables.{Tables}
-use Rattle.hir_env.specs.declared.place.LoweringMode.{LoweringMode}
-use Rattle.hir_env.specs.declared.place.LoweringMode.TheVariants as mode
-use Rattle.json_kinds.specs.declared.group.Group.{Group}
-use Rattle.json_kinds.specs.declared.group.Group.TheVariants as group
-use Rattle.json_faults.specs.Documents.{document_fault, nodes}
-use Rattle.json_faults.specs.Faults.{Fault}
-use Rattle.json_faults.specs.Kinds.{kinds_of}
+use Rattle.hir_env.specs.declared.ctx.LoweringMode.{LoweringMode}
+use Rattle.hir_env.specs.declared.ctx.LoweringMode.TheVariants as mode
+use Rattle.json_errors.specs.declared.group.Group.{Group}
+use Rattle.json_errors.specs.declared.group.Group.TheVariants as group
+use Rattle.json_errors.specs.Documents.{document_fault, nodes}
+use Rattle.json_errors.specs.Faults.{Fault}
+use Rattle.json_errors.specs.Kinds.{kinds_of}
 use Rattle.json_nodes.specs.Fields.{number_or, flag_of, text_in}
 use Rattle.lower_json.specs.Reading.{tree_at}
 use Rattle.lower_json.specs.Aliases.{aliases_of}
 use Rattle.lower_json.specs.Environment.{tables_of}
-use Rattle.json_kinds.specs.ByWord.{with_word}
+use Rattle.json_errors.specs.ByWord.{with_word}
 use Rattle.lower_json.specs.declared.document.Document.{Document}
 use Rattle.lower_json.specs.declared.document.Root.{Root}
 use Rattle.lower_json.specs.declared.document.Root.TheVariants as root

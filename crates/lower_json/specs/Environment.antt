@@ -4,7 +4,7 @@ use Rattle.serde_json.specs.Data.{Data, Items}
 use Rattle.serde_json.specs.Find.{get}
 use Rattle.hir_tables.specs.Tables.{Tables, empty, with_context, with_first, with_pred}
 use Rattle.hir_store.specs.declared.ids.ItemContainerId.{ItemContainerId}
-use Rattle.json_kinds.specs.declared.kind.Kind.{Kind}
+use Rattle.json_errors.specs.declared.kind.Kind.{Kind}
 use Rattle.json_nodes.specs.Fields.{flag_of, number_or}
 use Rattle.lower_json.specs.Macros.{with_definitions, with_expansions, with_legacy}
 use Rattle.lower_json.specs.Tables.{context_of, decided_of, disabled_of, lang_of, named_of, numbered_of, rows, with_all, with_paths}

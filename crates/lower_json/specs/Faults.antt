@@ -2,7 +2,7 @@
 use Rattle.std.specs.Prelude.{◌≡◌, ◌⊎◌, ℕ, List, Some, None, IsUtf8}
 use Rattle.serde_json.specs.Data.{Data}
 use Rattle.serde_json.specs.Read.{read}
-use Rattle.json_faults.specs.Faults.{fault_of}
+use Rattle.json_errors.specs.Faults.{fault_of}
 use Rattle.lower_json.specs.Documents.{first_fault}
 use Rattle.lower_json.specs.declared.document.Root.{Root}
 use Rattle.lower_json.specs.declared.fault.Fault.{Fault}

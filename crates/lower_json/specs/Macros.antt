@@ -1,4 +1,4 @@
--- What calls of macros are expanded to, and the definitions of macros. What is no entry of a table says nothing.
+-- What macro calls are expanded to, and the definitions of macros. What is no entry of a table says nothing.
 use Rattle.std.specs.Prelude.{ℕ, List, [], Option, Some, None, option_map, option_and_then}
 use Rattle.serde_json.specs.Data.{Data, Items, no_items, item}
 use Rattle.serde_json.specs.Find.{as_array, as_str}
@@ -12,8 +12,8 @@ use Rattle.hir_store.specs.declared.ids.ModuleId.{ModuleId}
 use Rattle.hir_store.specs.declared.name.Name.{Name}
 use Rattle.hir_store.specs.declared.name.Name.TheVariants as name
 use Rattle.hir_syntax.specs.declared.macros.Fragment.{Fragment}
-use Rattle.json_faults.specs.Values.{small_of}
-use Rattle.json_kinds.specs.declared.kind.Kind.{Kind}
+use Rattle.json_errors.specs.Values.{small_of}
+use Rattle.json_errors.specs.declared.kind.Kind.{Kind}
 use Rattle.lower_json.specs.Reading.{fragment_at}
 use Rattle.lower_json.specs.Tables.{both, path_in, site_of}
 

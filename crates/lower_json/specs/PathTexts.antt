@@ -9,8 +9,8 @@ use Rattle.hir_store.specs.declared.name.Name.TheVariants as name
 use Rattle.hir_store.specs.declared.path.ModPath.{ModPath}
 use Rattle.hir_store.specs.declared.path.PathKind.{PathKind}
 use Rattle.hir_store.specs.declared.path.PathKind.TheVariants as kind
-use Rattle.json_faults.specs.Values.{small}
-use Rattle.json_kinds.specs.ByWord.{or_else}
+use Rattle.json_errors.specs.Values.{small}
+use Rattle.json_errors.specs.ByWord.{or_else}
 
 abbrev pub is_colon : ℕ → Bool
 is_colon b = b == 58

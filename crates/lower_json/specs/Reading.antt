@@ -5,21 +5,21 @@ use Rattle.serde_json.specs.Data.{null, Items}
 use Rattle.serde_json.specs.Find.{get_item}
 use Rattle.hir_base.specs.declared.node.NodeId.{NodeId}
 use Rattle.hir_base.specs.declared.node.TextRange.{TextRange}
-use Rattle.hir_items.specs.declared.ast.TypeAlias.{TypeAlias}
+use Rattle.hir_syntax.specs.declared.items.TypeAlias.{TypeAlias}
 use Rattle.hir_syntax.specs.declared.macros.Fragment.{Fragment}
 use Rattle.hir_syntax.specs.declared.macros.Fragment.TheVariants as fragment
 use Rattle.hir_syntax.specs.declared.params.ParamList.{ParamList}
 use Rattle.hir_syntax.specs.declared.pats.Pat.{Pat}
 use Rattle.hir_syntax.specs.declared.types.Param.{roll-Param}
-use Rattle.json_faults.specs.Kinds.{kind_at}
-use Rattle.json_items.specs.Items.{function, type_alias}
-use Rattle.json_items.specs.Listed.{Listed}
-use Rattle.json_kinds.specs.declared.kind.ExprNode.{ExprNode}
-use Rattle.json_kinds.specs.declared.kind.ItemNode.TheVariants as item
-use Rattle.json_kinds.specs.declared.kind.Kind.{Kind}
-use Rattle.json_kinds.specs.declared.kind.Kind.TheVariants as kind
-use Rattle.json_kinds.specs.declared.kind.PartNode.{PartNode}
-use Rattle.json_kinds.specs.declared.kind.PathNode.{PathNode}
+use Rattle.json_errors.specs.Kinds.{kind_at}
+use Rattle.json_nodes.specs.Items.{function, type_alias}
+use Rattle.json_nodes.specs.Listed.{Listed}
+use Rattle.json_errors.specs.declared.kind.ExprNode.{ExprNode}
+use Rattle.json_errors.specs.declared.kind.ItemNode.TheVariants as item
+use Rattle.json_errors.specs.declared.kind.Kind.{Kind}
+use Rattle.json_errors.specs.declared.kind.Kind.TheVariants as kind
+use Rattle.json_errors.specs.declared.kind.PartNode.{PartNode}
+use Rattle.json_errors.specs.declared.kind.PathNode.{PathNode}
 use Rattle.json_nodes.specs.Branches.{branching, of_branch}
 use Rattle.json_nodes.specs.Exprs.{flow, plain, operation, member, leaving, partless, of_if, of_literal}
 use Rattle.json_nodes.specs.Macros.{of_macro}
@@ -34,7 +34,7 @@ use Rattle.json_nodes.specs.Args.{of_args}
 use Rattle.json_nodes.specs.Bounds.{of_bound}
 use Rattle.json_nodes.specs.Groups.{as_expr, as_macro_stmts, as_pat, as_type}
 use Rattle.json_nodes.specs.Parts.{Here}
-use Rattle.json_kinds.specs.ByWord.{or_else}
+use Rattle.json_errors.specs.ByWord.{or_else}
 use Rattle.json_nodes.specs.declared.code_parts.ExprPart.{ExprPart}
 use Rattle.json_nodes.specs.Any.{PathPart}
 use Rattle.json_nodes.specs.Any.{AnyPart}
@@ -122,7 +122,7 @@ alias_at kinds ns at = option_and_then
     (λ d. if is_alias (kind_of kinds at) then Some (type_alias (node_at (part_at 255 kinds ns) at d) (in_lists kinds ns)) else None)
     (get_item at ns)
 
--- what stands at a node of a kind, as what a call of a macro is expanded to: a pattern, a type, statements, or else an expression
+-- what stands at a node of a kind, as what a macro call is expanded to: a pattern, a type, statements, or else an expression
 abbrev pub fragment_of : Here → Kind → Option Fragment
 fragment_of h (kind.Pat k) = option_map fragment.Pat (option_and_then as_pat (of_kind h (kind.Pat k)))
 fragment_of h (kind.Type_ k) = option_map fragment.Type_ (option_and_then as_type (of_kind h (kind.Type_ k)))

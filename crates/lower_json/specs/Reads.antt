@@ -3,8 +3,8 @@ use Rattle.std.specs.Prelude.{◌≡◌, ℕ, Bool, List, Option}
 use Rattle.std.specs.declared.alloc.Global.{Global}
 use denote.Ref.{Bor, MutBor}
 use Rattle.serde_json.specs.View.{items_view}
-use Rattle.json_faults.specs.declared.members.NodeList.{NodeList}
-use Rattle.json_kinds.specs.declared.kind.Kind.{Kind}
+use Rattle.json_errors.specs.declared.members.NodeList.{NodeList}
+use Rattle.json_errors.specs.declared.kind.Kind.{Kind}
 use Rattle.lower_json.specs.Reading.{part_at}
 use Rattle.json_nodes.specs.Any.{AnyPart}
 use Rattle.json_nodes.specs.Kept.{Kept}
@@ -20,6 +20,6 @@ Post = Global → Bor (List (Option Kind)) → Bor NodeList → ℕ → MutBor B
 pub record Reads (pre : Pre) (post : Post) (kinds : List (Option Kind)) (nodes : NodeList) (levels : ℕ) : Type 0 where
   pub callable : (alloc : Global) (ks : Bor (List (Option Kind))) (vs : Bor NodeList) (old : MutBor Bool) (at : ℕ)
       → ks.now ≡ kinds → vs.now ≡ nodes → pre alloc ks vs levels old at
-  pub told : (alloc : Global) (ks : Bor (List (Option Kind))) (vs : Bor NodeList) (old new : MutBor Bool) (at : ℕ) (r : Option AnyPart)
+  pub emitted : (alloc : Global) (ks : Bor (List (Option Kind))) (vs : Bor NodeList) (old new : MutBor Bool) (at : ℕ) (r : Option AnyPart)
       → ks.now ≡ kinds → vs.now ≡ nodes → post alloc ks vs levels old at r new
       → Kept old.now new.now (r ≡ part_at levels kinds (items_view nodes.nodes.now) at)

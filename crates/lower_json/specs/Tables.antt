@@ -20,8 +20,8 @@ use Rattle.hir_store.specs.declared.ids.LangItemId.{LangItemId}
 use Rattle.hir_store.specs.declared.path.ModPath.{ModPath}
 use Rattle.hir_store.specs.declared.ids.ModuleId.{ModuleId}
 use Rattle.hir_base.specs.declared.node.PredId.{PredId}
-use Rattle.json_faults.specs.Values.{is_alias_word, small_of}
-use Rattle.json_kinds.specs.ByWord.{with_word}
+use Rattle.json_errors.specs.Values.{is_alias_word, small_of}
+use Rattle.json_errors.specs.ByWord.{with_word}
 use Rattle.lower_json.specs.PathTexts.{path_of}
 
 -- the node of a number in a file
@@ -220,7 +220,7 @@ items_in lang = record {
   range_sub = item_in (codes "RangeSub") 22 lang;
 }
 
--- the items of the language, each with its own number where nothing is said of them
+-- the lang items, each with its own number where nothing is said of them
 abbrev pub lang_of : Option Data → LangItems
 lang_of None = numbered_items
 lang_of (Some lang) = items_in lang

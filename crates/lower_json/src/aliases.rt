@@ -12,9 +12,9 @@ use crate::tables::entries_of;
 use crate::tree::alias_at;
 use hir_base::Seq;
 use hir_store::ids::TypeAliasId;
-use json_faults::members::NodeList;
-use json_faults::value::small;
-use json_kinds::kind::Kind;
+use json_errors::kind::Kind;
+use json_errors::members::NodeList;
+use json_errors::value::small;
 use serde_json::Value;
 use std::alloc::{AllocError, Global};
 

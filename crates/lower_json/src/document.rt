@@ -1,10 +1,10 @@
 //! What a document says.
 
 use hir_base::Seq;
-use hir_env::place::LoweringMode;
-use hir_items::ast::{Fn, TypeAlias};
+use hir_env::ctx::LoweringMode;
 use hir_store::ids::{DefWithBodyId, TypeAliasId};
 use hir_syntax::ast::{ParamList, Path, Type_};
+use hir_syntax::items::{Fn, TypeAlias};
 use hir_tables::table::TableEnv;
 
 /// What the root of a document has to be.

@@ -2,7 +2,7 @@
 
 ghost use Rattle.std.specs.Prelude.{◌≡◌};
 
-use json_faults::refusal::Refusal;
+use json_errors::refusal::Refusal;
 use std::alloc::AllocError;
 use thiserror::Error;
 
@@ -12,7 +12,7 @@ pub enum Fault {
     #[error("not JSON")]
     NotJson,
     #[error("{0}")]
-    Document(json_faults::fault::Fault),
+    Document(json_errors::fault::Fault),
 }
 
 /// A text was faulty, or memory was refused.

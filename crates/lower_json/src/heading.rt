@@ -4,9 +4,9 @@ ghost use Rattle.std.specs.Prelude.{◌≡◌, option_map};
 ghost use Rattle.serde_json.specs.View.{view};
 ghost use Rattle.lower_json.specs.Documents.{owner_word, owners, owner_of, container_word, containers, container_of, skip_of, mode_of};
 ghost use Rattle.json_nodes.specs.Fields.{text_in};
-ghost use Rattle.json_kinds.specs.ByWord.{with_word};
+ghost use Rattle.json_errors.specs.ByWord.{with_word};
 
-use hir_env::place::LoweringMode;
+use hir_env::ctx::LoweringMode;
 use hir_store::ids::{
     ConstId, DefWithBodyId, ExternBlockId, FunctionId, ImplId, ItemContainerId, ModuleId, StaticId,
     TraitId, VariantId,

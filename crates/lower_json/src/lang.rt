@@ -54,7 +54,7 @@ fn items(lang: &Value) -> LangItems
     }
 }
 
-/// The items of the language, each with its own number where nothing is said of it.
+/// The lang items, each with its own number where nothing is said of it.
 pub fn lang_items(lang: Option<&Value>) -> LangItems
     ensures { result ≡ lang_of (option_map (λ l. view l.now) lang.entry) }
 {

@@ -1,8 +1,8 @@
-//! What calls of macros are expanded to, and the definitions of macros.
+//! What macro calls are expanded to, and the definitions of macros.
 
 ghost use Rattle.std.specs.Prelude.{◌≡◌, IfOk, OnOk, Some, option_map};
 ghost use Rattle.serde_json.specs.View.{view, items_view};
-ghost use Rattle.json_faults.specs.Values.{small_of};
+ghost use Rattle.json_errors.specs.Values.{small_of};
 ghost use Rattle.hir_tables.specs.declared.table.MacroAnswer.TheVariants as answer;
 ghost use Rattle.lower_json.specs.Macros as spec;
 ghost use Rattle.lower_json.specs.Macros.{answer_in, call_in, name_in, with_definitions, with_expansions, with_legacy};
@@ -16,9 +16,9 @@ use hir_base::{Seq, Text};
 use hir_store::ids::{MacroDefId, ModuleId};
 use hir_store::name::Name;
 use hir_tables::table::{MacroAnswer, TableEnv, TablesOf};
-use json_faults::members::NodeList;
-use json_faults::value::small;
-use json_kinds::kind::Kind;
+use json_errors::kind::Kind;
+use json_errors::members::NodeList;
+use json_errors::value::small;
 use serde_json::Value;
 use std::alloc::{AllocError, Global};
 

@@ -3,8 +3,8 @@
 ghost use Rattle.std.specs.Prelude.{◌≡◌, IfOk, IfErr, OnOk, Some, None, IsUtf8};
 ghost use Rattle.serde_json.specs.Read.{read};
 ghost use Rattle.serde_json.specs.View.{view, items_view};
-ghost use Rattle.json_faults.specs.Documents.{nodes};
-ghost use Rattle.json_faults.specs.Kinds.{kinds_of};
+ghost use Rattle.json_errors.specs.Documents.{nodes};
+ghost use Rattle.json_errors.specs.Kinds.{kinds_of};
 ghost use Rattle.lower_json.specs.Documents.{group_of, is_optional, document_of, first_fault, IsDocument};
 ghost use Rattle.lower_json.specs.Faults.{IsErrorOf, IsTextError};
 
@@ -14,12 +14,13 @@ use crate::fault::{Fault, ReadError};
 use crate::heading::{container, mode, owner, skip};
 use crate::tables::tables;
 use crate::tree::read_tree_at;
-use json_faults::document::{checked_kinds, nodes};
-use json_faults::members::NodeList;
-use json_kinds::group::Group;
-use json_kinds::kind::Kind;
+use json_errors::document::{checked_kinds, nodes};
+use json_errors::group::Group;
+use json_errors::kind::Kind;
+use json_errors::members::NodeList;
 use json_nodes::field::{flag_in, number_in};
 use serde_json::Value;
+use sha2::{Digest, Sha512};
 use std::alloc::{AllocError, Global};
 use std::mem::forget;
 
@@ -62,10 +63,21 @@ fn parse(alloc: Global, text: &[u8]) -> Result<Value, ReadError>
     }
 }
 
+/// What names are hashed by: a digest of the whole text. Each change of a name changes it, so that names can't be fitted to it.
+fn hash_key(text: &[u8]) -> u128 {
+    let digest = Sha512::digest(text);
+    let mut key = 0;
+    for byte in &digest[..16] {
+        key = (key << 8) | u128::from(*byte);
+    }
+    key
+}
+
 /// What a document says, with the kinds of its nodes.
 fn read_document(
     alloc: Global,
     want: Root,
+    hash_key: u128,
     kinds: &[Option<Kind>],
     listed: &NodeList<'_>,
     document: &Value,
@@ -77,6 +89,7 @@ fn read_document(
     // The tree comes last, and the aliases next to it, since each `?` behind them would have to let go of them.
     let mut env = tables(alloc, kinds, listed, document, container(document))?;
     env.set_skip(skip(document));
+    env.set_hash_key(hash_key);
     let aliases = aliases(alloc, kinds, listed, document)?;
     let root = number_in(document.get("root"), 0);
     Ok(Document {
@@ -89,7 +102,12 @@ fn read_document(
     })
 }
 
-fn read_value(alloc: Global, want: Root, document: &Value) -> Result<Document, ReadError>
+fn read_value(
+    alloc: Global,
+    want: Root,
+    hash_key: u128,
+    document: &Value,
+) -> Result<Document, ReadError>
     ensures sound { IfOk result (λ d. first_fault want (view document.now) ≡ None) }
     ensures document { IfOk result (λ d. d ≡ document_of want (view document.now)) }
     ensures fault { IfErr result (λ e. IsErrorOf want (view document.now) e) }
@@ -100,7 +118,14 @@ fn read_value(alloc: Global, want: Root, document: &Value) -> Result<Document, R
         members: found.members.as_slice(),
         starts: found.starts.as_slice(),
     };
-    Ok(read_document(alloc, want, found.kinds.as_slice(), &listed, document)?)
+    Ok(read_document(
+        alloc,
+        want,
+        hash_key,
+        found.kinds.as_slice(),
+        &listed,
+        document,
+    )?)
 }
 
 /// Reads a document whose root is what is wanted. The fault of a text is the first one that it has, and a text that has
@@ -110,7 +135,7 @@ pub fn read_tree(alloc: Global, want: Root, text: &[u8]) -> Result<Document, Rea
     ensures fault { IfErr result (λ e. IsTextError want text.now e) }
 {
     let value = parse(alloc, text)?;
-    let document = read_value(alloc, want, &value);
+    let document = read_value(alloc, want, hash_key(text), &value);
     drop(value);
     document
 }
@@ -121,7 +146,7 @@ pub fn read_tree_leaking(alloc: Global, want: Root, text: &[u8]) -> Result<Docum
     ensures fault { IfErr result (λ e. IsTextError want text.now e) }
 {
     let value = parse(alloc, text)?;
-    let document = read_value(alloc, want, &value);
+    let document = read_value(alloc, want, hash_key(text), &value);
     forget(value);
     document
 }

@@ -3,8 +3,8 @@
 ghost use Rattle.std.specs.Prelude.{◌≡◌, IfOk, OnOk, Some};
 ghost use Rattle.serde_json.specs.View.{view, items_view};
 ghost use Rattle.serde_json.specs.Find.{as_array};
-ghost use Rattle.json_faults.specs.Values.{is_alias_word, small_of};
-ghost use Rattle.json_kinds.specs.ByWord.{with_word};
+ghost use Rattle.json_errors.specs.Values.{is_alias_word, small_of};
+ghost use Rattle.json_errors.specs.ByWord.{with_word};
 ghost use Rattle.lower_json.specs.Tables as spec;
 ghost use Rattle.lower_json.specs.Tables.{alias_of, number_or_null, resolution_of, resolution_word, resolutions};
 ghost use Rattle.lower_json.specs.Tables.{resolved_of, with_paths};
@@ -15,7 +15,7 @@ use hir_env::resolved::{Resolution, Resolved, TypeAliasId};
 use hir_store::ids::ModuleId;
 use hir_store::path::ModPath;
 use hir_tables::table::TablesOf;
-use json_faults::value::{is_alias_word, small};
+use json_errors::value::{is_alias_word, small};
 use serde_json::Value;
 use std::alloc::{AllocError, Global};
 

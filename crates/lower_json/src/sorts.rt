@@ -10,7 +10,7 @@ ghost use Rattle.json_nodes.specs.Types as types;
 ghost use Rattle.lower_json.specs.Reading as spec;
 ghost use Rattle.lower_json.specs.Reading.{of_kind};
 
-use json_kinds::kind::{ExprNode, Kind, PartNode, PatNode, PathNode, StmtNode, TypeNode};
+use json_errors::kind::{ExprNode, Kind, PartNode, PatNode, PathNode, StmtNode, TypeNode};
 use json_nodes::args::of_args;
 use json_nodes::bounds::of_bound;
 use json_nodes::branches::{branching, of_branch};

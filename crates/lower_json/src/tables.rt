@@ -3,7 +3,7 @@
 ghost use Rattle.std.specs.Prelude.{◌≡◌, Some, IfOk, OnOk, codes};
 ghost use Rattle.serde_json.specs.View.{view, items_view};
 ghost use Rattle.serde_json.specs.Find.{as_array, as_bool, get};
-ghost use Rattle.json_faults.specs.Values.{small_of};
+ghost use Rattle.json_errors.specs.Values.{small_of};
 ghost use Rattle.hir_tables.specs.Tables.{with_context, with_first, with_pred};
 ghost use Rattle.lower_json.specs.Tables.{site_of, triple_of, quadruple_of, both, disabled_of, named_of, numbered_of};
 ghost use Rattle.lower_json.specs.Environment.{with_tables, tables_of};
@@ -18,9 +18,9 @@ use hir_store::ids::{
     BlockId, CfgId, CrateId, CtxId, HygieneId, ItemContainerId, MacroDefId, ModuleId,
 };
 use hir_tables::table::{Context, TableEnv, TablesOf};
-use json_faults::members::NodeList;
-use json_faults::value::small;
-use json_kinds::kind::Kind;
+use json_errors::kind::Kind;
+use json_errors::members::NodeList;
+use json_errors::value::small;
 use json_nodes::field::{flag_in, number_in};
 use serde_json::Value;
 use std::alloc::{AllocError, Global};

@@ -4,7 +4,7 @@ ghost use Rattle.std.specs.Prelude.{◌≡◌, IfOk, option_and_then};
 ghost use Rattle.serde_json.specs.View.{view, items_view};
 ghost use Rattle.json_nodes.specs.Kept.{Kept};
 ghost use Rattle.json_nodes.specs.Nodes.{here, node_at};
-ghost use Rattle.json_items.specs.Lists.{listed};
+ghost use Rattle.json_nodes.specs.Lists.{listed};
 ghost use Rattle.lower_json.specs.Reads.{Reads};
 ghost use Rattle.lower_json.specs.Reading as spec;
 ghost use Rattle.lower_json.specs.Reading.{fragment_of, of_kind, tree_of, tree_at};
@@ -13,15 +13,15 @@ use crate::document::{Root, Tree};
 use crate::sorts::of_kind;
 use hir_base::Boxed;
 use hir_base::node::{NodeId, TextRange};
-use hir_items::ast::TypeAlias;
 use hir_syntax::ast::{Fragment, Param, ParamList, Pat};
-use json_faults::kinds::kind_at;
-use json_faults::members::{NodeList, Own};
-use json_items::items::{function, type_alias};
-use json_items::listed::ListedNodes;
-use json_kinds::kind::{ItemNode, Kind};
+use hir_syntax::items::TypeAlias;
+use json_errors::kind::{ItemNode, Kind};
+use json_errors::kinds::kind_at;
+use json_errors::members::{NodeList, Own};
 use json_nodes::code_parts::{Exprs, MacroStmtLists};
 use json_nodes::fields::Fields;
+use json_nodes::items::{function, type_alias};
+use json_nodes::listed::ListedNodes;
 use json_nodes::node::{Node, node_at};
 use json_nodes::param_parts::Pats;
 use json_nodes::part::{AnyPart, BoxedGroup, Group, ReadParts, in_box, served};
@@ -281,7 +281,7 @@ pub fn alias_at(
     Some(type_alias(&node, &items, refused))
 }
 
-/// What stands at a node of a kind, as what a call of a macro is expanded to.
+/// What stands at a node of a kind, as what a macro call is expanded to.
 fn fragment_of<P: ReadParts>(node: &Node<'_, P>, refused: &mut bool, kind: Kind) -> Option<Fragment>
     requires { P.can node.now.parts.now }
     ensures { Kept refused.old refused.new (result ≡ fragment_of (here P.parts node.now) kind) }
@@ -322,7 +322,7 @@ fn whole_fragment<P: ReadParts>(
     Err(AllocError)
 }
 
-/// What a call of a macro is expanded to, whose root is at an index, if it is there. Its root is on the first level, wherever
+/// What a macro call is expanded to, whose root is at an index, if it is there. Its root is on the first level, wherever
 /// the call stands.
 #[tactic(auto, unfolding(crate::specs::Reading::fragment_at))]
 pub fn fragment_at(

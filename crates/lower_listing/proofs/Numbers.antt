@@ -42,8 +42,8 @@ module _ {X : Type 0} (p : X → Bool) where
       by true e g = absurd (none-some (position_or_len p xs) (sym g))
       by false e g = (grind (arith, at_most xs, e), any_is xs ∙ e)
 
-  pub told : (xs : List X) → is_some (position p xs) ≡ list_any p xs
-  told xs = by (nat_lt (position_or_len p xs) (length xs)) ∙ sym (any_is xs)
+  pub emitted : (xs : List X) → is_some (position p xs) ≡ list_any p xs
+  emitted xs = by (nat_lt (position_or_len p xs) (length xs)) ∙ sym (any_is xs)
     where
       by : (b : Bool) → is_some (cond b (Some (position_or_len p xs)) None) ≡ b
       by true = refl
@@ -79,8 +79,8 @@ pushed xs item x new =
 pub placed_more : (xs : List ℕ) (places now : List (Option ℕ)) (item : ℕ) → Placed xs places → position (nat_eq item) xs ≡ None
     → ((x : ℕ) → get_or now x None ≡ cond (nat_eq x item) (Some (length xs)) (get_or places x None))
     → Placed (xs ++ item ∷ []) now
-placed_more xs places now item placed new noted x =
-    noted x ∙ (ap (λ o. cond (nat_eq x item) (Some (length xs)) o) (placed x) ∙ sym (pushed xs item x new))
+placed_more xs places now item placed new tracked x =
+    tracked x ∙ (ap (λ o. cond (nat_eq x item) (Some (length xs)) o) (placed x) ∙ sym (pushed xs item x new))
 
 -- what is in the set already, and what isn't
 
@@ -104,9 +104,9 @@ reaches old new n long longer kept fresh x = by (nat_lt x (length old)) refl (na
     by false e true f = fresh x None (grind (arith, e)) (grind (arith, f)) ∙ sym (grind (arith, common_steps, e))
     by false e false f = grind (arith, common_steps, e, f, long)
 
-pub noted_at : (old : List (Option ℕ)) (item x : ℕ) (o : Option ℕ) → item < length old
+pub tracked_at : (old : List (Option ℕ)) (item x : ℕ) (o : Option ℕ) → item < length old
     → get_or (set old item o) x None ≡ cond (nat_eq x item) o (get_or old x None)
-noted_at old item x o within = by (nat_eq x item) refl
+tracked_at old item x o within = by (nat_eq x item) refl
   where
     by : (b : Bool) → nat_eq x item ≡ b → get_or (set old item o) x None ≡ cond b o (get_or old x None)
     by true e = grind (arith, common_steps, e, within)

@@ -1,4 +1,4 @@
-//! The lines of what the calls of macros were expanded to.
+//! The lines of what the macro calls were expanded to.
 
 use super::writer::Writer;
 use hir_base::node::{InFile, NodeId, TextRange};

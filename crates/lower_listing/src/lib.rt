@@ -16,9 +16,9 @@ mod words;
 mod writer;
 
 use hir_env::lang::LangItems;
-use hir_param::Param;
 use hir_store::generics::GenericParams;
 use hir_store::ids::{BindingId, PatId, TypeRefId};
+use hir_store::param::Param;
 use hir_store::path::Path;
 use hir_store::source_map::ExpressionStoreSourceMap;
 use hir_store::store::ExpressionStore;

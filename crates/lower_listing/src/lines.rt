@@ -4,7 +4,7 @@ use super::owners::Owners;
 use super::words::{await_word, missing_body_word, mode_word, problem_word};
 use super::writer::Writer;
 use hir_base::node::{AstPtr, InFile};
-use hir_lower_scope::ways_back::{named_parts, segment_name};
+use hir_lower_scope::reverse_mappings::{named_parts, segment_name};
 use hir_store::diagnostics::ExpressionStoreDiagnostics;
 use hir_store::ids::{BindingId, ExprId, LabelId};
 use hir_store::source_map::ExpressionStoreSourceMap;

@@ -48,7 +48,7 @@ fn reach(places: &mut Vec<Option<usize>>, item: u32) -> Result<(), AllocError>
 }
 
 /// Notes where an item stands. Where memory is refused nothing changes.
-fn note(places: &mut Vec<Option<usize>>, item: u32, place: usize) -> Result<(), AllocError>
+fn track(places: &mut Vec<Option<usize>>, item: u32, place: usize) -> Result<(), AllocError>
     ensures ok { OnOk result ((x : ℕ) → slice_index_or places.new.items x None
         ≡ cond (nat_eq x item) (Some place) (slice_index_or places.old.items x None)) }
     ensures err { OnErr result (places.new.items ≡ places.old.items) }
@@ -88,7 +88,7 @@ impl Numbering {
         }
         let number = self.printed.len();
         self.printed.reserve(1)?;
-        note(&mut self.places, item, number)?;
+        track(&mut self.places, item, number)?;
         self.printed.push_reserved(item);
         Ok(number)
     }

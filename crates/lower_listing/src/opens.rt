@@ -18,8 +18,8 @@ impl<'a> Printer<'a> {
     /// no store holds, prints as a missing expression.
     pub fn open_expr(&mut self, id: ExprId) {
         self.root_mark(id);
-        let noted = self.owners.note(self.writer.text().len(), id);
-        self.writer.note(noted);
+        let tracked = self.owners.track(self.writer.text().len(), id);
+        self.writer.track(tracked);
         let Some(expr) = self.listed.store.expr(id) else {
             return self.writer.word("(Missing)");
         };

@@ -37,7 +37,7 @@ impl Owners {
     }
 
     /// Notes that an expression stands at a place of the text, behind all that were noted before.
-    pub fn note(&mut self, place: usize, id: ExprId) -> Result<(), AllocError> {
+    pub fn track(&mut self, place: usize, id: ExprId) -> Result<(), AllocError> {
         self.places.push((place, id))?;
         Ok(())
     }

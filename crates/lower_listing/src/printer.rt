@@ -8,10 +8,10 @@ use super::waiting::{Piece, Waiting, arg_piece};
 use super::words::lang_word;
 use super::writer::Writer;
 use super::{Listed, expansions, lines};
-use hir_param::Param;
 use hir_store::hir::{MatchArm, RecordFieldPat, RecordLitField, Statement};
 use hir_store::ids::{BindingId, ExprId, HygieneId, LabelId, LifetimeRefId, PatId, TypeRefId};
 use hir_store::name::Name;
+use hir_store::param::Param;
 use hir_store::path::{AssociatedTypeBinding, GenericArg, GenericArgs, Path};
 use hir_store::type_ref::{TypeBound, UseArgRef};
 use hir_syntax::ast;
@@ -475,7 +475,7 @@ impl<'a> Printer<'a> {
 
     pub(super) fn binding(&mut self, id: BindingId) {
         let found = self.owners.find(self.listed.store.binding_owner(id));
-        self.writer.note(found);
+        self.writer.track(found);
         self.writer.found("#", self.bindings.number(id.0))
     }
 

@@ -1,8 +1,8 @@
-//! What a listing begins with, but for a path's, which holds a tree and so is handed on by itself.
+//! What a listing begins with, except for a path's, which holds a tree and so is handed on by itself.
 
 use super::signatures::Signature;
-use hir_param::Param;
 use hir_store::ids::{BindingId, PatId, TypeRefId};
+use hir_store::param::Param;
 
 /// What the first lines of a listing show.
 #[derive(Clone, Copy)]

@@ -74,7 +74,7 @@ impl Writer {
     }
 
     /// Notes that memory was refused, where it was.
-    pub fn note(&mut self, done: Result<(), AllocError>) {
+    pub fn track(&mut self, done: Result<(), AllocError>) {
         if done.is_err() {
             self.refuse();
         }
@@ -84,7 +84,7 @@ impl Writer {
     pub fn mark(&mut self, mark: char) {
         if !self.is_refused {
             let pushed = self.out.push(mark);
-            self.note(pushed);
+            self.track(pushed);
         }
     }
 
@@ -92,7 +92,7 @@ impl Writer {
     pub fn word(&mut self, text: &str) {
         if !self.is_refused {
             let pushed = self.out.push_str(text);
-            self.note(pushed);
+            self.track(pushed);
         }
     }
 

@@ -33,11 +33,11 @@ abbrev pub ReadsIn : Option Mode → Option (List ℕ) → Option (List ℕ) →
 ReadsIn called old new holds = (mode : Mode) × (called ≡ Some mode) × ((text : List ℕ) × ReadsAll old new text × holds mode text)
 
 -- this came of all that was left, in the mode that was called for
-abbrev pub Answered : {T : Type 0} → Option Mode → Option (List ℕ) → Option (List ℕ) → Result T Failure → Type 0
-Answered called old new (Err failure.Input) = Unit {0}
-Answered called old new (Err failure.Output) = ⊥
-Answered called old new (Err failure.Memory) = Unit {0}
-Answered called old new (Err failure.Usage) = Unit {0}
-Answered called old new (Err failure.Full) = ReadsIn called old new SaysSome
-Answered called old new (Err (failure.Document f)) = ReadsIn called old new (λ mode text. IsTextFault (root_of mode) text f)
-Answered called old new (Ok _) = ReadsIn called old new SaysSome
+abbrev pub ResolvedTree : {T : Type 0} → Option Mode → Option (List ℕ) → Option (List ℕ) → Result T Failure → Type 0
+ResolvedTree called old new (Err failure.Input) = Unit {0}
+ResolvedTree called old new (Err failure.Output) = ⊥
+ResolvedTree called old new (Err failure.Memory) = Unit {0}
+ResolvedTree called old new (Err failure.Usage) = Unit {0}
+ResolvedTree called old new (Err failure.Full) = ReadsIn called old new SaysSome
+ResolvedTree called old new (Err (failure.Document f)) = ReadsIn called old new (λ mode text. IsTextFault (root_of mode) text f)
+ResolvedTree called old new (Ok _) = ReadsIn called old new SaysSome

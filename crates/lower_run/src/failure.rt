@@ -38,15 +38,22 @@ impl Failure {
         }
     }
 
+    /// The status that the run ends with.
+    pub fn status(&self) -> u8
+        ensures { result ≡ status_of self.now }
+    {
+        match self {
+            Failure::Usage | Failure::Input | Failure::Output | Failure::Document(_) => 2,
+            Failure::Memory | Failure::Full => 3,
+        }
+    }
+
     /// Says why, where `errors` takes it, and answers the status that the run ends with.
     pub fn report<X: Write>(&self, errors: &mut X) -> u8
         ensures { result ≡ status_of self.now }
     {
         let _ = writeln!(errors, "{}", self);
-        match self {
-            Failure::Usage | Failure::Input | Failure::Output | Failure::Document(_) => 2,
-            Failure::Memory | Failure::Full => 3,
-        }
+        self.status()
     }
 }
 

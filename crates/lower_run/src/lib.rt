@@ -1,6 +1,7 @@
-//! The program but for what it takes from the system: from an input to the listing on an output, and the status.
+//! The program except for what it takes from the system: from an input to the listing on an output, and the status.
 #![tactic(auto)]
 
+pub mod disposal;
 pub mod failure;
 mod input;
 pub mod mode;

@@ -1,17 +1,20 @@
-//! The whole run. A process has no other work, so what a run read and lowered isn't let go of, which would take a fifth of it.
+//! The whole run, and the listing of one document among many.
+//!
+//! A process that lowers one document has no other work, so it doesn't drop what it read and lowered, which would take a fifth of it. One
+//! that lowers many drops all of it after each.
 
 ghost use Rattle.std.specs.Prelude.{◌≡◌, ◌⊎◌, IfErr, None, List, ℕ};
 ghost use Rattle.lower_run.specs.Words.{called};
-ghost use Rattle.lower_run.specs.Answers.{CameOf, Answered, ReadsIn, SaysSome};
+ghost use Rattle.lower_run.specs.Answers.{CameOf, ResolvedTree, ReadsIn, SaysSome};
 ghost use Rattle.std.specs.Io.KnownBytes.{Appends};
 
+use crate::disposal::Disposal;
 use crate::failure::Failure;
 use crate::input::read_all;
 use crate::mode::Mode;
 use hir_alias::signature::AliasSignature;
 use hir_base::node::{AstPtr, HirFileId, InFile};
 use hir_env::env::LowerEnv;
-use hir_items::ast::Fn;
 use hir_lower::{
     ErrorImplTrait, ExprCollector, LowerError, lower_body, lower_function, lower_type_alias,
     lower_type_ref,
@@ -22,9 +25,10 @@ use hir_store::path::Path;
 use hir_store::source_map::ExpressionStoreSourceMap;
 use hir_store::store::ExpressionStore;
 use hir_syntax::ast::{self, ParamList};
+use hir_syntax::items::Fn;
 use hir_tables::table::TableEnv;
 use lower_json::document::{Alias, Document, Tree};
-use lower_json::read::read_tree_leaking;
+use lower_json::read::{read_tree, read_tree_leaking};
 use lower_listing::{
     Listed, Signature, body_listing, function_listing, params_listing, path_listing, type_listing,
 };
@@ -49,7 +53,13 @@ fn listed_in<'a>(
 }
 
 /// The listing of a body.
-fn listed_body(alloc: Global, document: &Document, item: &Fn) -> Result<String, Failure>
+fn listed_body<E: LowerEnv>(
+    alloc: Global,
+    disposal: Disposal,
+    document: &Document,
+    env: &E,
+    item: &Fn,
+) -> Result<String, Failure>
     ensures { IfErr result (λ e. (e ≡ Failure.Memory) ⊎ (e ≡ Failure.Full)) }
 {
     let node = AstPtr {
@@ -62,7 +72,7 @@ fn listed_body(alloc: Global, document: &Document, item: &Fn) -> Result<String, 
     };
     let (body, source_map) = lower_body(
         alloc,
-        &document.env,
+        env,
         document.owner,
         node,
         HirFileId(0),
@@ -78,13 +88,19 @@ fn listed_body(alloc: Global, document: &Document, item: &Fn) -> Result<String, 
         None => None,
     };
     let text = body_listing(alloc, listed, self_param, body.params.as_slice());
-    forget(body);
-    forget(source_map);
+    disposal.end(body);
+    disposal.end(source_map);
     text.map_err(|_| Failure::Memory)
 }
 
 /// The listing of a pattern, which stands in the only parameter of a function.
-fn listed_pat(alloc: Global, document: &Document, params: &ParamList) -> Result<String, Failure>
+fn listed_pat<E: LowerEnv>(
+    alloc: Global,
+    disposal: Disposal,
+    document: &Document,
+    env: &E,
+    params: &ParamList,
+) -> Result<String, Failure>
     ensures { IfErr result (λ e. (e ≡ Failure.Memory) ⊎ (e ≡ Failure.Full)) }
 {
     let node = AstPtr {
@@ -93,7 +109,7 @@ fn listed_pat(alloc: Global, document: &Document, params: &ParamList) -> Result<
     };
     let (body, source_map) = lower_body(
         alloc,
-        &document.env,
+        env,
         DefWithBodyId::FunctionId(FunctionId(0)),
         node,
         HirFileId(0),
@@ -105,46 +121,49 @@ fn listed_pat(alloc: Global, document: &Document, params: &ParamList) -> Result<
     )?;
     let listed = listed_in(document, &body.store, &source_map.store);
     let text = params_listing(alloc, listed, body.params.as_slice());
-    forget(body);
-    forget(source_map);
+    disposal.end(body);
+    disposal.end(source_map);
     text.map_err(|_| Failure::Memory)
 }
 
 /// A lowered path, with the store that it names.
-fn lowered_path(
+fn lowered_path<E: LowerEnv>(
     alloc: Global,
     document: &Document,
+    env: &E,
     path: &ast::Path,
 ) -> Result<(Option<Path>, ExpressionStore, ExpressionStoreSourceMap), LowerError> {
-    let mut collector = ExprCollector::new(
-        alloc,
-        &document.env,
-        ModuleId(0),
-        HirFileId(0),
-        document.mode,
-    );
+    let mut collector = ExprCollector::new(alloc, env, ModuleId(0), HirFileId(0), document.mode);
     let lowered = collector.lower_path(path, &mut ErrorImplTrait)?;
     let (store, source_map) = collector.into_store()?;
     Ok((lowered, store, source_map))
 }
 
 /// The listing of a path.
-fn listed_path(alloc: Global, document: &Document, path: &ast::Path) -> Result<String, Failure>
+fn listed_path<E: LowerEnv>(
+    alloc: Global,
+    disposal: Disposal,
+    document: &Document,
+    env: &E,
+    path: &ast::Path,
+) -> Result<String, Failure>
     ensures { IfErr result (λ e. (e ≡ Failure.Memory) ⊎ (e ≡ Failure.Full)) }
 {
-    let (lowered, store, source_map) = lowered_path(alloc, document, path)?;
+    let (lowered, store, source_map) = lowered_path(alloc, document, env, path)?;
     let listed = listed_in(document, &store, &source_map);
     let text = path_listing(alloc, listed, lowered.as_ref(), path);
-    forget(lowered);
-    forget(store);
-    forget(source_map);
+    disposal.end(lowered);
+    disposal.end(store);
+    disposal.end(source_map);
     text.map_err(|_| Failure::Memory)
 }
 
 /// The listing of a type, which may be absent.
-fn listed_type(
+fn listed_type<E: LowerEnv>(
     alloc: Global,
+    disposal: Disposal,
     document: &Document,
+    env: &E,
     ty: Option<&ast::Type_>,
 ) -> Result<String, Failure>
     ensures { IfErr result (λ e. (e ≡ Failure.Memory) ⊎ (e ≡ Failure.Full)) }
@@ -153,11 +172,11 @@ fn listed_type(
         file_id: HirFileId(0),
         value: ty,
     };
-    let (store, source_map, lowered) = lower_type_ref(alloc, &document.env, ModuleId(0), written)?;
+    let (store, source_map, lowered) = lower_type_ref(alloc, env, ModuleId(0), written)?;
     let listed = listed_in(document, &store, &source_map);
     let text = type_listing(alloc, listed, lowered);
-    forget(store);
-    forget(source_map);
+    disposal.end(store);
+    disposal.end(source_map);
     text.map_err(|_| Failure::Memory)
 }
 
@@ -186,7 +205,13 @@ fn signature_listing<'a>(
 }
 
 /// The listing of a function's types.
-fn listed_function(alloc: Global, document: &Document, item: &Fn) -> Result<String, Failure>
+fn listed_function<E: LowerEnv>(
+    alloc: Global,
+    disposal: Disposal,
+    document: &Document,
+    env: &E,
+    item: &Fn,
+) -> Result<String, Failure>
     ensures { IfErr result (λ e. (e ≡ Failure.Memory) ⊎ (e ≡ Failure.Full)) }
 {
     let written = InFile {
@@ -195,7 +220,7 @@ fn listed_function(alloc: Global, document: &Document, item: &Fn) -> Result<Stri
     };
     let (store, source_map, params, args, ret, has_self, has_variadic) = lower_function(
         alloc,
-        &document.env,
+        env,
         ModuleId(0),
         written,
         FunctionId(0),
@@ -203,20 +228,27 @@ fn listed_function(alloc: Global, document: &Document, item: &Fn) -> Result<Stri
     let listed = listed_in(document, &store, &source_map);
     let types = args.as_slice();
     let text = signature_listing(alloc, listed, &params, types, ret, has_self, has_variadic);
-    forget(store);
-    forget(source_map);
-    forget(params);
-    forget(args);
+    disposal.end(store);
+    disposal.end(source_map);
+    disposal.end(params);
+    disposal.end(args);
     text.map_err(|_| Failure::Memory)
 }
 
 /// The listing of a function or of its body.
-fn listed_item(alloc: Global, mode: Mode, document: &Document, item: &Fn) -> Result<String, Failure>
+fn listed_item<E: LowerEnv>(
+    alloc: Global,
+    disposal: Disposal,
+    mode: Mode,
+    document: &Document,
+    env: &E,
+    item: &Fn,
+) -> Result<String, Failure>
     ensures { IfErr result (λ e. (e ≡ Failure.Memory) ⊎ (e ≡ Failure.Full)) }
 {
     match mode {
-        Mode::Fn => listed_function(alloc, document, item),
-        _ => listed_body(alloc, document, item),
+        Mode::Fn => listed_function(alloc, disposal, document, env, item),
+        _ => listed_body(alloc, disposal, document, env, item),
     }
 }
 
@@ -254,51 +286,103 @@ fn add_aliases(alloc: Global, env: &mut TableEnv, aliases: &[Alias]) -> Result<(
     Ok(())
 }
 
-/// The listing of a document's tree.
-fn document_listing(alloc: Global, mode: Mode, document: &Document) -> Result<String, Failure>
+/// The listing of a document's tree, where an environment answers that need not be its own.
+pub fn tree_listing<E: LowerEnv>(
+    alloc: Global,
+    disposal: Disposal,
+    mode: Mode,
+    document: &Document,
+    env: &E,
+) -> Result<String, Failure>
     ensures { IfErr result (λ e. (e ≡ Failure.Memory) ⊎ (e ≡ Failure.Full)) }
 {
     match &document.tree {
-        Tree::Fn(item) => listed_item(alloc, mode, document, item),
-        Tree::Path(path) => listed_path(alloc, document, path),
-        Tree::Type_(ty) => listed_type(alloc, document, ty.as_ref()),
-        Tree::Pat(params) => listed_pat(alloc, document, params),
+        Tree::Fn(item) => listed_item(alloc, disposal, mode, document, env, item),
+        Tree::Path(path) => listed_path(alloc, disposal, document, env, path),
+        Tree::Type_(ty) => listed_type(alloc, disposal, document, env, ty.as_ref()),
+        Tree::Pat(params) => listed_pat(alloc, disposal, document, env, params),
     }
 }
 
-/// The listing of a document, of which first the aliases are lowered.
-fn lowered_listing(alloc: Global, mode: Mode, document: &mut Document) -> Result<String, Failure>
+/// What is listed of a document whose aliases are lowered already.
+pub trait Lists {
+    fn listing(&self, alloc: Global, mode: Mode, document: &Document) -> Result<String, Failure>
+        ensures { IfErr result (λ e. (e ≡ Failure.Memory) ⊎ (e ≡ Failure.Full)) };
+}
+
+/// Its tree, where its own tables answer, for a process that ends with it.
+#[derive(Clone, Copy)]
+pub struct ByTables;
+
+impl Lists for ByTables {
+    fn listing(&self, alloc: Global, mode: Mode, document: &Document) -> Result<String, Failure> {
+        tree_listing(alloc, Disposal::Forget, mode, document, &document.env)
+    }
+}
+
+/// The same for a document among many.
+#[derive(Clone, Copy)]
+struct AmongMany;
+
+impl Lists for AmongMany {
+    fn listing(&self, alloc: Global, mode: Mode, document: &Document) -> Result<String, Failure> {
+        tree_listing(alloc, Disposal::Drop, mode, document, &document.env)
+    }
+}
+
+/// What is listed of a document, of which first the aliases are lowered.
+fn lowered_listing<L: Lists>(
+    alloc: Global,
+    lists: &L,
+    mode: Mode,
+    document: &mut Document,
+) -> Result<String, Failure>
     ensures { IfErr result (λ e. (e ≡ Failure.Memory) ⊎ (e ≡ Failure.Full)) }
 {
     add_aliases(alloc, &mut document.env, document.aliases.as_slice())?;
-    document_listing(alloc, mode, document)
+    lists.listing(alloc, mode, document)
 }
 
-/// The listing of the document that a text is in a mode.
-fn listing(alloc: Global, mode: Mode, text: &[u8]) -> Result<String, Failure>
+/// What is listed of the document that a text is in a mode.
+fn listing<L: Lists>(alloc: Global, lists: &L, mode: Mode, text: &[u8]) -> Result<String, Failure>
     ensures { CameOf mode text.now result }
 {
     let mut document = read_tree_leaking(alloc, mode.root(), text)?;
-    let listed = lowered_listing(alloc, mode, &mut document);
+    let listed = lowered_listing(alloc, lists, mode, &mut document);
     forget(document);
     listed
 }
 
-/// The listing of what stands in the input. The words are judged before the input is read.
-fn answer<W: AsStr, R: Read>(alloc: Global, words: &[W], input: &mut R) -> Result<String, Failure>
+/// What is listed of the document that a text is in a mode, for a process that has more to do: all that was read and lowered is dropped.
+pub fn listing_among_many(alloc: Global, mode: Mode, text: &[u8]) -> Result<String, Failure>
+    ensures { CameOf mode text.now result }
+{
+    let mut document = read_tree(alloc, mode.root(), text)?;
+    let listed = lowered_listing(alloc, &AmongMany, mode, &mut document);
+    drop(document);
+    listed
+}
+
+/// What is listed of what stands in the input. The words are judged before the input is read.
+fn answer<L: Lists, W: AsStr, R: Read>(
+    alloc: Global,
+    lists: &L,
+    words: &[W],
+    input: &mut R,
+) -> Result<String, Failure>
     ensures usage { called W.text words.now ≡ None → (result ≡ Err Failure.Usage) × (input.new ≡ input.old) }
     ensures called { result ≡ Err Failure.Usage → called W.text words.now ≡ None }
-    ensures answered { Answered (called W.text words.now) (R.remaining input.old) (R.remaining input.new) result }
+    ensures answered { ResolvedTree (called W.text words.now) (R.remaining input.old) (R.remaining input.new) result }
 {
     let Some(mode) = Mode::called(words) else {
         return Err(Failure::Usage);
     };
     let text = read_all(alloc, input)?;
-    listing(alloc, mode, text.as_slice())
+    listing(alloc, lists, mode, text.as_slice())
 }
 
 /// Writes all of a text, and answers the status: 0, or 2 where the write failed, which is said on `errors`.
-fn written<O: Write, X: Write>(out: &mut O, errors: &mut X, text: &str) -> u8
+pub fn written<O: Write, X: Write>(out: &mut O, errors: &mut X, text: &str) -> u8
     ensures status { (result ≡ 0) ⊎ (result ≡ 2) }
     ensures listed { result ≡ 0 → Appends (O.contents out.old) (O.contents out.new) text.now }
     ensures silent { result ≡ 0 → errors.new ≡ errors.old }
@@ -309,14 +393,15 @@ fn written<O: Write, X: Write>(out: &mut O, errors: &mut X, text: &str) -> u8
     }
 }
 
-/// Reads a document from `input`, writes its listing to `out`, and answers the status: 0, or 2 where the words or the
+/// Reads a document from `input`, writes what is listed of it to `out`, and answers the status: 0, or 2 where the words or the
 /// document are wrong or a read or a write failed, or 3 where memory was refused or an arena was full.
 ///
 /// A run that doesn't end with status 0 says on `errors` why. Nothing is written to `out` before the whole listing is there; how much of
 /// it went out before a write failed is left open. A failing write to `errors` changes nothing. What was read and lowered is never let go
 /// of, since a process ends with its run.
-pub fn run<W: AsStr, R: Read, O: Write, X: Write>(
+pub fn run<L: Lists, W: AsStr, R: Read, O: Write, X: Write>(
     alloc: Global,
+    lists: &L,
     words: &[W],
     input: &mut R,
     out: &mut O,
@@ -330,7 +415,7 @@ pub fn run<W: AsStr, R: Read, O: Write, X: Write>(
     ensures silent { result ≡ 0 → errors.new ≡ errors.old }
     ensures unlisted { (out.new ≡ out.old) ⊎ ReadsIn (called W.text words.now) (R.remaining input.old) (R.remaining input.new) SaysSome }
 {
-    match answer(alloc, words, input) {
+    match answer(alloc, lists, words, input) {
         Ok(text) => written(out, errors, text.as_str()),
         Err(failure) => failure.report(errors),
     }

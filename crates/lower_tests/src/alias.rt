@@ -10,7 +10,7 @@ use hir_alias::visitor::Visitor;
 use hir_base::{Seq, Text};
 use hir_env::env::LowerEnv;
 use hir_store::builder::ExpressionStoreBuilder;
-use hir_store::fault::StoreFault;
+use hir_store::error::StoreError;
 use hir_store::generics::{GenericParams, LifetimeBoundType, LifetimeParamData};
 use hir_store::hir::Mutability;
 use hir_store::ids::{TypeAliasId, TypeRefId};
@@ -41,9 +41,9 @@ type Named = [bool; 3];
 
 fn flags(alias: &AliasSignature) -> Named {
     [
-        alias.constrained(0),
-        alias.constrained(1),
-        alias.constrained(2),
+        alias.is_constrained(0),
+        alias.is_constrained(1),
+        alias.is_constrained(2),
     ]
 }
 
@@ -51,7 +51,7 @@ fn flags(alias: &AliasSignature) -> Named {
 fn store_reference(
     alloc: Global,
     builder: &mut ExpressionStoreBuilder,
-) -> Result<TypeRefId, StoreFault>
+) -> Result<TypeRefId, StoreError>
     ensures { IfOk result (λ ty. HasType builder.new ty) }
 {
     let ty = builder.alloc_type(TypeRef::Tuple(Seq::new(alloc)), None)?;
@@ -69,7 +69,7 @@ fn alias_of(
     alloc: Global,
     names: &[&str],
     ty: Option<TypeRefId>,
-) -> Result<AliasSignature, StoreFault> {
+) -> Result<AliasSignature, StoreError> {
     let mut builder = ExpressionStoreBuilder::new(alloc, 2);
     store_reference(alloc, &mut builder)?;
     let (store, source_map) = builder.finish();
@@ -77,7 +77,7 @@ fn alias_of(
     AliasSignature::new(alloc, store, params(alloc, names)?, ty)
 }
 
-fn named_by(alloc: Global, names: &[&str], ty: Option<TypeRefId>) -> Result<Named, StoreFault> {
+fn named_by(alloc: Global, names: &[&str], ty: Option<TypeRefId>) -> Result<Named, StoreError> {
     let alias = alias_of(alloc, names, ty)?;
     Ok(flags(&alias))
 }
@@ -114,7 +114,7 @@ fn pair(
     alloc: Global,
     builder: &mut ExpressionStoreBuilder,
     ty: TypeRefId,
-) -> Result<TypeRefId, StoreFault>
+) -> Result<TypeRefId, StoreError>
     requires { HasType builder.old ty }
     ensures { IfOk result (λ pair. HasType builder.new pair) }
 {
@@ -127,7 +127,7 @@ fn pairs(
     alloc: Global,
     builder: &mut ExpressionStoreBuilder,
     ty: TypeRefId,
-) -> Result<TypeRefId, StoreFault>
+) -> Result<TypeRefId, StoreError>
     requires { HasType builder.old ty }
     ensures { IfOk result (λ pair. HasType builder.new pair) }
 {
@@ -142,7 +142,7 @@ fn more_pairs(
     alloc: Global,
     builder: &mut ExpressionStoreBuilder,
     ty: TypeRefId,
-) -> Result<TypeRefId, StoreFault>
+) -> Result<TypeRefId, StoreError>
     requires { HasType builder.old ty }
     ensures { IfOk result (λ pair. HasType builder.new pair) }
 {
@@ -153,7 +153,7 @@ fn more_pairs(
 }
 
 /// The same, 64 times: written out, the type has more than a million million million references.
-fn pairs_named(alloc: Global) -> Result<Named, StoreFault> {
+fn pairs_named(alloc: Global) -> Result<Named, StoreError> {
     let mut builder = ExpressionStoreBuilder::new(alloc, 66);
     let reference = store_reference(alloc, &mut builder)?;
     let once = more_pairs(alloc, &mut builder, reference)?;
@@ -172,12 +172,12 @@ fn a_type_is_gone_into_once(rt: HostRuntime) {
 }
 
 /// What a visitor says before and after it walks.
-fn walked(alloc: Global) -> Result<(bool, bool, bool), StoreFault> {
+fn walked(alloc: Global) -> Result<(bool, bool, bool), StoreError> {
     let alias = alias_of(alloc, &["'b"], Some(TypeRefId(1)))?;
     let mut visitor = Visitor::new(&alias);
-    let before = visitor.constrained(0);
+    let before = visitor.is_constrained(0);
     visitor.walk()?;
-    Ok((before, visitor.constrained(0), visitor.constrained(1)))
+    Ok((before, visitor.is_constrained(0), visitor.is_constrained(1)))
 }
 
 #[test]
@@ -192,7 +192,7 @@ struct Answers {
     named: Option<Named>,
 }
 
-fn set_both(alloc: Global, tables: &mut TableEnv) -> Result<(), StoreFault> {
+fn set_both(alloc: Global, tables: &mut TableEnv) -> Result<(), StoreError> {
     let first = alias_of(alloc, &["'b"], Some(TypeRefId(1)))?;
     tables.set_alias(TypeAliasId(3), first)?;
     let second = alias_of(alloc, &["'b"], None)?;

@@ -4,8 +4,8 @@ use crate::documents::{Said, own_if};
 use hir_base::node::{HirFileId, InFile, NodeId, TextRange};
 use hir_store::arena::Arena;
 use hir_store::builder::ExpressionStoreBuilder;
+use hir_store::error::StoreError;
 use hir_store::expansions::ExpandedCall;
-use hir_store::fault::StoreFault;
 use hir_store::hir::Expr;
 use hir_store::ids::{ExprId, LifetimeRefId};
 use hir_store::type_ref::LifetimeRef;
@@ -13,7 +13,7 @@ use std::alloc::Global;
 use std::test::Fail;
 
 /// The limit of an arena, how many calls of `alloc` are made in it, what `spare` answers then, and what one more call answers.
-pub type Room = (u32, u32, u32, Result<LifetimeRefId, StoreFault>);
+pub type Room = (u32, u32, u32, Result<LifetimeRefId, StoreError>);
 
 /// A page has 1,024 entries.
 pub const PAGES: [Room; 6] = [
@@ -28,13 +28,13 @@ pub const PAGES: [Room; 6] = [
 /// A limit cuts what is spare.
 pub const LIMITS: [Room; 4] = [
     (3, 1, 2, Ok(LifetimeRefId(1))),
-    (3, 3, 0, Err(StoreFault::Full)),
+    (3, 3, 0, Err(StoreError::Full)),
     (1030, 1025, 5, Ok(LifetimeRefId(1025))),
-    (1030, 1030, 0, Err(StoreFault::Full)),
+    (1030, 1030, 0, Err(StoreError::Full)),
 ];
 
 /// Stores so many entries, up to the first refusal.
-fn fill(arena: &mut Arena<LifetimeRef>, calls: u32) -> Result<(), StoreFault> {
+fn fill(arena: &mut Arena<LifetimeRef>, calls: u32) -> Result<(), StoreError> {
     for _ in 0..calls {
         arena.alloc(LifetimeRef::Error)?;
     }
@@ -50,8 +50,8 @@ pub fn said_of_room(alloc: Global, room: Room) -> Said {
     let len = arena.len();
     let more = arena.alloc(LifetimeRef::Error);
     drop(arena);
-    let is_refused = more == Err(StoreFault::Memory) && own_more.is_ok();
-    if is_refused || filled == Err(StoreFault::Memory) {
+    let is_refused = more == Err(StoreError::Memory) && own_more.is_ok();
+    if is_refused || filled == Err(StoreError::Memory) {
         return Said::Memory;
     }
     own_if(filled == Ok(()) && (spare, len, more) == (own_spare, calls, own_more))
@@ -103,8 +103,8 @@ fn said_of_one_more(arena: &mut Arena<LifetimeRef>, limit: u32) -> Said {
         return Said::Other;
     }
     match answer {
-        Err(StoreFault::Memory) if len < limit => Said::Memory,
-        Err(StoreFault::Full) => own_if(len >= limit),
+        Err(StoreError::Memory) if len < limit => Said::Memory,
+        Err(StoreError::Full) => own_if(len >= limit),
         _ => Said::Other,
     }
 }
@@ -164,7 +164,7 @@ fn of_equal_calls_the_last_counts(rt: HostRuntime) -> Result<(), Fail> {
 }
 
 /// Stores two expressions, and an `if` of both.
-fn store_if(builder: &mut ExpressionStoreBuilder) -> Result<(), StoreFault> {
+fn store_if(builder: &mut ExpressionStoreBuilder) -> Result<(), StoreError> {
     let condition = builder.alloc_expr(Expr::Missing, None)?;
     let then_branch = builder.alloc_expr(Expr::Underscore, None)?;
     let whole = Expr::If {

@@ -1,11 +1,11 @@
-//! Calls of macros that an object answers, without end and otherwise.
+//! Macro calls that an object answers, without end and otherwise.
 
 use crate::collectors::{Call, Holds, Script, said_of_calls};
 use crate::documents::Said;
-use crate::lowered::{By, said_of_body};
+use crate::lowered::{EnvironmentKind, said_of_body};
+use crate::mappings::{Count, Shown};
 use crate::objects::Text;
 use crate::small::NESTED;
-use crate::ways::{Count, Shown};
 
 /// `f(m!(), n!())`, where each call stands for itself: the call in what it stands for has its number, in its file.
 pub const ENDLESS: &str = r#"{
@@ -43,25 +43,27 @@ pub const NONE_ENTERED: &str = r#"{
 
 /// Six expansions are recorded, and no fault.
 pub const SIX: Shown<'static> = Shown {
-    ways: &[],
+    mappings: &[],
     back: &[],
     counts: &[(Count::Expansions, 6), (Count::Faults, 0)],
 };
 
 pub const NONE: Shown<'static> = Shown {
-    ways: &[],
+    mappings: &[],
     back: &[],
     counts: &[(Count::Expansions, 0), (Count::Faults, 0)],
 };
 
 #[test]
 fn calls_without_end_are_entered_up_to_the_limit(rt: HostRuntime) {
-    assert!(rt; said_of_body(rt.alloc(), ENDLESS, By::Object, &SIX) == Said::Own);
+    assert!(rt; said_of_body(rt.alloc(), ENDLESS, EnvironmentKind::Object, &SIX) == Said::Own);
 }
 
 #[test]
 fn no_call_is_entered_where_the_limit_is_zero(rt: HostRuntime) {
-    assert!(rt; said_of_body(rt.alloc(), NONE_ENTERED, By::Object, &NONE) == Said::Own);
+    assert!(rt;
+        said_of_body(rt.alloc(), NONE_ENTERED, EnvironmentKind::Object, &NONE) == Said::Own
+    );
 }
 
 /// `'a: loop { macro_rules! m {..} m!() }`, where m stands for `break 'a`, whose label's context was made in itself.
@@ -97,7 +99,14 @@ diag UndeclaredLabel 'a
 
 #[test]
 fn a_search_ends_in_a_context_that_is_its_own_parent(rt: HostRuntime) {
-    assert!(rt; said_of_body(rt.alloc(), ITS_OWN_PARENT, By::Object, &NO_LABEL) == Said::Own);
+    assert!(rt;
+        said_of_body(
+            rt.alloc(),
+            ITS_OWN_PARENT,
+            EnvironmentKind::Object,
+            &NO_LABEL
+        ) == Said::Own
+    );
 }
 
 /// `m!()` as an expression, which is expanded to a type.
@@ -116,7 +125,9 @@ pub const MISSING: Text = Text("body r0=(Missing)\nexpansion @2 1\n");
 
 #[test]
 fn a_call_that_is_expanded_to_another_kind_is_recorded_and_missing(rt: HostRuntime) {
-    assert!(rt; said_of_body(rt.alloc(), OTHER_KIND, By::Object, &MISSING) == Said::Own);
+    assert!(rt;
+        said_of_body(rt.alloc(), OTHER_KIND, EnvironmentKind::Object, &MISSING) == Said::Own
+    );
 }
 
 /// Three calls are entered, and the fourth isn't.

@@ -6,8 +6,8 @@ use crate::listings::{said_of_listing, said_of_type_listing};
 use crate::owners::{Owners, are_owners};
 use hir_base::Seq;
 use hir_base::node::{AstPtr, HirFileId, NodeId, TextRange};
+use hir_env::ctx::LoweringMode;
 use hir_env::env::LowerEnv;
-use hir_env::place::LoweringMode;
 use hir_lower::{
     ErrorImplTrait, ExprCollector, ImplTraitLower, LowerError, OpaqueImplTrait,
     impl_trait_error_allocator,

@@ -1,8 +1,8 @@
 //! Which stored parts the parameters of a function are whose body is a coroutine, and where the coroutine of a closure is stored.
 
 use crate::documents::{Said, own_if};
-use crate::lowered::{AskOfBody, By, said_of_body};
-use crate::ways::expr_at;
+use crate::lowered::{AskOfBody, EnvironmentKind, said_of_body};
+use crate::mappings::expr_at;
 use hir_lower::{Body, BodySourceMap};
 use hir_store::hir::{Expr, Pat, Statement};
 use hir_store::ids::{BindingId, ExprId, PatId};
@@ -99,7 +99,9 @@ impl AskOfBody for BoundByLets {
 
 #[test]
 fn what_was_written_is_bound_by_the_lets_in_front_of_the_body(rt: HostRuntime) {
-    assert!(rt; said_of_body(rt.alloc(), FUNCTION, By::Tables, &BoundByLets) == Said::Own);
+    assert!(rt;
+        said_of_body(rt.alloc(), FUNCTION, EnvironmentKind::Tables, &BoundByLets) == Said::Own
+    );
 }
 
 /// The numbers of the closure that node 2 leads to, and of the coroutine in it.
@@ -128,5 +130,5 @@ impl AskOfBody for Numbers {
 
 #[test]
 fn a_coroutine_is_stored_right_in_front_of_its_closure(rt: HostRuntime) {
-    assert!(rt; said_of_body(rt.alloc(), CLOSURE, By::Tables, &NUMBERS) == Said::Own);
+    assert!(rt; said_of_body(rt.alloc(), CLOSURE, EnvironmentKind::Tables, &NUMBERS) == Said::Own);
 }

@@ -1,7 +1,7 @@
 //! The patterns that make a binding, which no listing prints by number, and how many patterns and bindings are stored.
 
 use crate::documents::{Said, own_if};
-use crate::lowered::{AskOfBody, By, said_of_body};
+use crate::lowered::{AskOfBody, EnvironmentKind, said_of_body};
 use hir_lower::{Body, BodySourceMap};
 use hir_store::ids::{BindingId, PatId};
 use std::alloc::Global;
@@ -99,8 +99,8 @@ const OF_TURNED: Defined = Defined {
 #[test]
 fn a_name_used_twice_is_one_binding_of_two_patterns(rt: HostRuntime) {
     let alloc = rt.alloc();
-    assert!(rt; said_of_body(alloc, TWICE, By::Tables, &OF_TWICE) == Said::Own);
-    assert!(rt; said_of_body(alloc, TURNED, By::Tables, &OF_TURNED) == Said::Own);
+    assert!(rt; said_of_body(alloc, TWICE, EnvironmentKind::Tables, &OF_TWICE) == Said::Own);
+    assert!(rt; said_of_body(alloc, TURNED, EnvironmentKind::Tables, &OF_TURNED) == Said::Own);
 }
 
 const OF_QUESTION: Defined = Defined {
@@ -112,7 +112,9 @@ const OF_QUESTION: Defined = Defined {
 
 #[test]
 fn each_name_of_a_question_is_a_binding_of_one_pattern(rt: HostRuntime) {
-    assert!(rt; said_of_body(rt.alloc(), QUESTION, By::Tables, &OF_QUESTION) == Said::Own);
+    assert!(rt;
+        said_of_body(rt.alloc(), QUESTION, EnvironmentKind::Tables, &OF_QUESTION) == Said::Own
+    );
 }
 
 const OF_FOR: Defined = Defined {
@@ -124,5 +126,5 @@ const OF_FOR: Defined = Defined {
 
 #[test]
 fn the_name_of_a_for_is_a_binding_behind_those_of_its_pattern(rt: HostRuntime) {
-    assert!(rt; said_of_body(rt.alloc(), FOR, By::Tables, &OF_FOR) == Said::Own);
+    assert!(rt; said_of_body(rt.alloc(), FOR, EnvironmentKind::Tables, &OF_FOR) == Said::Own);
 }

@@ -1,9 +1,9 @@
-//! Calls of macros in every place where a call is entered, each of which is expanded to another one.
+//! Macro calls in every place where a call is entered, each of which is expanded to another one.
 
 use crate::documents::Said;
-use crate::lowered::{By, said_of_body};
+use crate::lowered::{EnvironmentKind, said_of_body};
+use crate::mappings::{Count, Leads, Shown};
 use crate::objects::Text;
-use crate::ways::{Count, Leads, Shown};
 
 /// `f(m!(), n!())`, of which each is expanded to a call, and that to a call, and so on.
 pub const ARGUMENTS: &str = r#"{
@@ -38,7 +38,14 @@ expansion @201.1 202
 
 #[test]
 fn each_argument_is_entered_up_to_the_limit(rt: HostRuntime) {
-    assert!(rt; said_of_body(rt.alloc(), ARGUMENTS, By::Endless, &OF_ARGUMENTS) == Said::Own);
+    assert!(rt;
+        said_of_body(
+            rt.alloc(),
+            ARGUMENTS,
+            EnvironmentKind::Endless,
+            &OF_ARGUMENTS
+        ) == Said::Own
+    );
 }
 
 /// The same, of which none may be entered.
@@ -64,7 +71,14 @@ pub const OF_NO_ARGUMENTS: Text = Text("body r0=(Call (Path f) [(Missing) (Missi
 
 #[test]
 fn no_argument_is_entered_where_the_limit_is_zero(rt: HostRuntime) {
-    assert!(rt; said_of_body(rt.alloc(), NO_ARGUMENTS, By::Endless, &OF_NO_ARGUMENTS) == Said::Own);
+    assert!(rt;
+        said_of_body(
+            rt.alloc(),
+            NO_ARGUMENTS,
+            EnvironmentKind::Endless,
+            &OF_NO_ARGUMENTS
+        ) == Said::Own
+    );
 }
 
 /// `fn f() { m!(); let m!(): m!() = m!(); m!() }`, where statements are expanded to a call with a semicolon and one without.
@@ -105,7 +119,7 @@ const EVERYWHERE: &str = r#"{
 
 /// The statement, the pattern, the type, the value, and the tail.
 const OF_ALL: Shown<'static> = Shown {
-    ways: &[
+    mappings: &[
         (0, 3, Leads::Nowhere),
         (0, 6, Leads::Pat(0)),
         (0, 8, Leads::Type_(0)),
@@ -125,5 +139,7 @@ const OF_ALL: Shown<'static> = Shown {
 /// Three as a pattern, as a type and as a value; and as the statement and as the tail one, two and four.
 #[test]
 fn each_place_is_entered_up_to_the_limit(rt: HostRuntime) {
-    assert!(rt; said_of_body(rt.alloc(), EVERYWHERE, By::Endless, &OF_ALL) == Said::Own);
+    assert!(rt;
+        said_of_body(rt.alloc(), EVERYWHERE, EnvironmentKind::Endless, &OF_ALL) == Said::Own
+    );
 }

@@ -1,7 +1,7 @@
 //! The texts of errors that the program doesn't print.
 
 use hir_lower::LowerError;
-use hir_store::fault::StoreFault;
+use hir_store::error::StoreError;
 use std::test::Fail;
 
 #[test]
@@ -11,8 +11,8 @@ fn errors_say_why(rt: HostRuntime) -> Result<(), Fail> {
         LowerError::Memory,
         LowerError::Full,
         LowerError::Failed,
-        StoreFault::Memory,
-        StoreFault::Full
+        StoreError::Memory,
+        StoreError::Full
     )?;
     assert!(rt; texts.as_str() == "memory full failed memory full");
     Ok(())

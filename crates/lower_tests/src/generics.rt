@@ -1,11 +1,12 @@
 //! What generic parameters answer of themselves, and what a visitor of stored types is handed.
 
 ghost use Rattle.std.specs.Prelude.{◌+◌, min, not};
+ghost use Rattle.hir_store.specs.declared.path.AssociatedTypeBinding.TheViews.{out-GenericArgs};
 
 use hir_base::{Seq, Text};
 use hir_store::Either;
 use hir_store::builder::ExpressionStoreBuilder;
-use hir_store::fault::StoreFault;
+use hir_store::error::StoreError;
 use hir_store::generics::{
     GenericParams, LifetimeBoundType, LifetimeParamData, TypeOrConstParamData, TypeParamData,
     TypeParamProvenance, WherePredicate,
@@ -97,7 +98,7 @@ fn parameters_are_found_by_name(rt: HostRuntime) -> Result<(), Fail> {
 }
 
 #[test]
-fn a_predicate_tells_its_target(rt: HostRuntime) -> Result<(), Fail> {
+fn a_predicate_emits_its_target(rt: HostRuntime) -> Result<(), Fail> {
     let made = params(rt.alloc())?;
     let all = made.where_predicates();
     let targets = [
@@ -115,11 +116,12 @@ fn a_predicate_tells_its_target(rt: HostRuntime) -> Result<(), Fail> {
     Ok(())
 }
 
-/// How many types and lifetimes it was handed, up to 4294967295.
+/// How many types and lifetimes it was handed, and how often it was asked of arguments, each up to 4294967295.
 #[derive(Clone, Copy, PartialEq, Eq)]
 struct Counter {
     types: u32,
     lifetimes: u32,
+    asked: u32,
 }
 
 impl StoreVisitor for Counter {
@@ -127,26 +129,29 @@ impl StoreVisitor for Counter {
 
     ghost after_lifetime = { λ v l. record v { lifetimes = min (v.lifetimes + 1) 4294967295 } };
 
-    ghost enters = { not };
+    ghost after_args = { λ v a. record v { asked = min (v.asked + 1) 4294967295 } };
 
-    fn on_type(&mut self, _id: TypeRefId) -> Result<(), StoreFault> {
+    ghost enters = { λ v a. not (out-GenericArgs a).has_self_type };
+
+    fn on_type(&mut self, _id: TypeRefId) -> Result<(), StoreError> {
         self.types = self.types.saturating_add(1);
         Ok(())
     }
 
-    fn on_lifetime(&mut self, _id: LifetimeRefId) -> Result<(), StoreFault> {
+    fn on_lifetime(&mut self, _id: LifetimeRefId) -> Result<(), StoreError> {
         self.lifetimes = self.lifetimes.saturating_add(1);
         Ok(())
     }
 
-    /// Not those that carry `Self`.
-    fn on_generic_args(&mut self, args: &GenericArgs) -> Result<bool, StoreFault> {
+    /// Not those that carry `Self`. It counts how often it is asked.
+    fn on_generic_args(&mut self, args: &GenericArgs) -> Result<bool, StoreError> {
+        self.asked = self.asked.saturating_add(1);
         Ok(!args.has_self_type)
     }
 }
 
 /// Stores a type, a lifetime, and a reference of both.
-fn store_reference(builder: &mut ExpressionStoreBuilder) -> Result<TypeRefId, StoreFault> {
+fn store_reference(builder: &mut ExpressionStoreBuilder) -> Result<TypeRefId, StoreError> {
     let ty = builder.alloc_type(TypeRef::Never, None)?;
     let lifetime = builder.alloc_lifetime(LifetimeRef::Static, None)?;
     let whole = TypeRef::Reference(RefType {
@@ -165,6 +170,7 @@ fn a_visitor_is_handed_what_a_type_names(rt: HostRuntime) -> Result<(), Fail> {
     let mut counter = Counter {
         types: 0,
         lifetimes: 0,
+        asked: 0,
     };
     let of_none = visit_type_ref_children(&store, TypeRefId(2), &mut counter);
     let nothing = counter;
@@ -179,10 +185,11 @@ fn a_visitor_is_handed_what_a_type_names(rt: HostRuntime) -> Result<(), Fail> {
 }
 
 /// What is handed of arguments that are one type, or the same behind a type for `Self`.
-fn handed(alloc: Global, own: bool) -> Result<Counter, StoreFault> {
+fn handed(alloc: Global, own: bool) -> Result<Counter, StoreError> {
     let mut counter = Counter {
         types: 0,
         lifetimes: 0,
+        asked: 0,
     };
     let mut args = Seq::new(alloc);
     args.push(GenericArg::Type_(TypeRefId(0)))?;
@@ -201,7 +208,7 @@ fn a_visitor_says_which_arguments_follow(rt: HostRuntime) -> Result<(), Fail> {
     let alloc = rt.alloc();
     let plain = handed(alloc, false);
     let own = handed(alloc, true);
-    assert!(rt; plain.is_ok_and(|it| it.types == 1));
-    assert!(rt; own.is_ok_and(|it| it.types == 0));
+    assert!(rt; plain.is_ok_and(|it| it.types == 1 && it.asked == 1));
+    assert!(rt; own.is_ok_and(|it| it.types == 0 && it.asked == 1));
     Ok(())
 }

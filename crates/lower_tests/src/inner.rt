@@ -1,8 +1,8 @@
 //! What the nodes of `const` blocks, repeat arrays, closures and coroutines lead to, and how much is stored for them.
 
 use crate::documents::{Said, own_if};
-use crate::lowered::{AskOfBody, By, said_of_body};
-use crate::ways::{Count, are_counts, expr_at};
+use crate::lowered::{AskOfBody, EnvironmentKind, said_of_body};
+use crate::mappings::{Count, are_counts, expr_at};
 use hir_lower::{Body, BodySourceMap};
 use hir_store::hir::{Array, Expr};
 use hir_store::ids::{ExprId, PatId, TypeRefId};
@@ -130,7 +130,7 @@ const OF_CONST: Became = Became {
 
 #[test]
 fn a_const_block_leads_to_what_is_around_its_block(rt: HostRuntime) {
-    assert!(rt; said_of_body(rt.alloc(), CONST, By::Tables, &OF_CONST) == Said::Own);
+    assert!(rt; said_of_body(rt.alloc(), CONST, EnvironmentKind::Tables, &OF_CONST) == Said::Own);
 }
 
 const OF_REPEAT: Became = Became {
@@ -140,7 +140,7 @@ const OF_REPEAT: Became = Became {
 
 #[test]
 fn a_repeat_array_is_stored_behind_its_length_which_is_no_root(rt: HostRuntime) {
-    assert!(rt; said_of_body(rt.alloc(), REPEAT, By::Tables, &OF_REPEAT) == Said::Own);
+    assert!(rt; said_of_body(rt.alloc(), REPEAT, EnvironmentKind::Tables, &OF_REPEAT) == Said::Own);
 }
 
 const OF_CLOSURE: Became = Became {
@@ -154,7 +154,9 @@ const OF_CLOSURE: Became = Became {
 
 #[test]
 fn a_closure_has_a_pattern_for_each_parameter_and_is_no_root(rt: HostRuntime) {
-    assert!(rt; said_of_body(rt.alloc(), CLOSURE, By::Tables, &OF_CLOSURE) == Said::Own);
+    assert!(rt;
+        said_of_body(rt.alloc(), CLOSURE, EnvironmentKind::Tables, &OF_CLOSURE) == Said::Own
+    );
 }
 
 const OF_ASYNC: Became = Became {
@@ -164,7 +166,7 @@ const OF_ASYNC: Became = Became {
 
 #[test]
 fn an_async_block_leads_to_the_coroutine_around_its_block(rt: HostRuntime) {
-    assert!(rt; said_of_body(rt.alloc(), ASYNC, By::Tables, &OF_ASYNC) == Said::Own);
+    assert!(rt; said_of_body(rt.alloc(), ASYNC, EnvironmentKind::Tables, &OF_ASYNC) == Said::Own);
 }
 
 /// Whether the first four expressions came from nodes, in the order of their numbers.
@@ -187,5 +189,5 @@ impl AskOfBody for HaveNodes {
 #[test]
 fn the_block_in_a_coroutine_comes_from_no_node(rt: HostRuntime) {
     let have = HaveNodes([true, false, true, true]);
-    assert!(rt; said_of_body(rt.alloc(), ASYNC, By::Tables, &have) == Said::Own);
+    assert!(rt; said_of_body(rt.alloc(), ASYNC, EnvironmentKind::Tables, &have) == Said::Own);
 }

@@ -4,10 +4,9 @@
 use crate::documents::{AskOfDocument, Said, said_by_error, said_of};
 use crate::listings::said_of_text;
 use hir_base::node::{HirFileId, InFile};
+use hir_env::ctx::LoweringMode;
 use hir_env::env::LowerEnv;
 use hir_env::lang::LangItems;
-use hir_env::place::LoweringMode;
-use hir_items::ast::{GenericParamList, Impl, Trait, TypeAlias, WhereClause};
 use hir_lower::{lower_generic_params, lower_impl, lower_trait, lower_type_alias};
 use hir_store::generics::GenericParams;
 use hir_store::ids::{
@@ -16,6 +15,7 @@ use hir_store::ids::{
 use hir_store::source_map::ExpressionStoreSourceMap;
 use hir_store::store::ExpressionStore;
 use hir_syntax::ast::Type_;
+use hir_syntax::items::{GenericParamList, Impl, Trait, TypeAlias, WhereClause};
 use hir_syntax::{Boxed, Seq};
 use lower_json::document::{Document, Root, Tree};
 use lower_listing::{Listed, Signature, function_listing};
@@ -80,9 +80,9 @@ pub enum Item {
 
 /// An item with its listing.
 #[derive(Clone, Copy)]
-struct ItemIs<'a> {
-    item: Item,
-    listed: &'a str,
+pub struct ItemIs<'a> {
+    pub item: Item,
+    pub listed: &'a str,
 }
 
 /// How parameters and types are listed, as those of a function are.

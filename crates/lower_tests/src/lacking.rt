@@ -1,7 +1,7 @@
 //! What is lowered where one item of the language isn't there, each of them in turn.
 
 use crate::documents::Said;
-use crate::lowered::{By, said_of_body};
+use crate::lowered::{EnvironmentKind, said_of_body};
 use crate::objects::Text;
 use hir_store::ids::LangItemId;
 
@@ -343,7 +343,12 @@ fn each_item_of_the_language_may_be_absent(rt: HostRuntime) {
     for row in LACKS.iter() {
         let listed = Text(row.listed);
         assert!(rt;
-            said_of_body(rt.alloc(), row.text, By::Without(row.item), &listed) == Said::Own
+            said_of_body(
+                rt.alloc(),
+                row.text,
+                EnvironmentKind::Without(row.item),
+                &listed
+            ) == Said::Own
         );
     }
 }

@@ -1,10 +1,12 @@
-//! Tests of what no document shows and no contract says. What a document shows is a row.
+//! Tests of what no document shows and no contract says. What a document shows is a golden test.
 #![tactic(auto)]
 
 #[cfg(test)]
 mod alias;
 #[cfg(test)]
 mod arenas;
+#[cfg(test)]
+mod asked;
 #[cfg(test)]
 mod bindings;
 #[cfg(test)]
@@ -36,11 +38,17 @@ mod items;
 #[cfg(test)]
 mod lacking;
 #[cfg(test)]
+mod lifetimes;
+#[cfg(test)]
 mod listings;
+#[cfg(test)]
+mod lists;
 #[cfg(test)]
 mod lowered;
 #[cfg(test)]
 mod macros;
+#[cfg(test)]
+mod mappings;
 #[cfg(test)]
 mod nodes;
 #[cfg(test)]
@@ -54,7 +62,11 @@ mod paths;
 #[cfg(test)]
 mod patterns;
 #[cfg(test)]
+mod ranges;
+#[cfg(test)]
 mod refused;
+#[cfg(test)]
+mod reverse_mappings;
 #[cfg(test)]
 mod rewritten;
 #[cfg(test)]
@@ -64,8 +76,6 @@ mod stacks;
 #[cfg(test)]
 mod targets;
 #[cfg(test)]
+mod traits;
+#[cfg(test)]
 mod types;
-#[cfg(test)]
-mod ways;
-#[cfg(test)]
-mod ways_back;

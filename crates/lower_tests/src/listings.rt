@@ -9,7 +9,7 @@ use hir_env::lang::LangItems;
 use hir_lower::{Body, BodySourceMap};
 use hir_store::builder::ExpressionStoreBuilder;
 use hir_store::diagnostics::ExpressionStoreDiagnostics;
-use hir_store::fault::StoreFault;
+use hir_store::error::StoreError;
 use hir_store::hir::{Expr, Literal};
 use hir_store::ids::{HygieneId, TypeRefId};
 use hir_store::name::Name;
@@ -106,7 +106,7 @@ fn is_built(alloc: Global, builder: ExpressionStoreBuilder, own: &str) -> bool {
     is_listed
 }
 
-fn record_literal(builder: &mut ExpressionStoreBuilder, text: Text) -> Result<(), StoreFault> {
+fn record_literal(builder: &mut ExpressionStoreBuilder, text: Text) -> Result<(), StoreError> {
     let literal = Literal {
         negative: true,
         kind: LiteralKind::Int,
@@ -118,7 +118,7 @@ fn record_literal(builder: &mut ExpressionStoreBuilder, text: Text) -> Result<()
 }
 
 /// Whether an integer after a minus is listed so.
-fn is_literal(alloc: Global, digits: &str, own: &str) -> Result<bool, StoreFault> {
+fn is_literal(alloc: Global, digits: &str, own: &str) -> Result<bool, StoreError> {
     let text = Text::new(alloc, digits)?;
     let mut builder = ExpressionStoreBuilder::new(alloc, 1);
     let recorded = record_literal(&mut builder, text);
@@ -128,7 +128,7 @@ fn is_literal(alloc: Global, digits: &str, own: &str) -> Result<bool, StoreFault
 }
 
 #[test]
-fn a_minus_stands_in_front(rt: HostRuntime) -> Result<(), Fail> {
+fn a_minus_corresponds_in_front(rt: HostRuntime) -> Result<(), Fail> {
     let is_listed = is_literal(rt.alloc(), "0070", "body r0=(Literal -70)\n")?;
     assert!(rt; is_listed);
     Ok(())
@@ -145,7 +145,7 @@ fn generated(alloc: Global) -> Result<Seq<Name>, AllocError> {
 fn record_path(
     builder: &mut ExpressionStoreBuilder,
     segments: Seq<Name>,
-) -> Result<(), StoreFault> {
+) -> Result<(), StoreError> {
     let path = Path::BarePath(ModPath {
         kind: PathKind::Plain,
         segments,
@@ -159,7 +159,7 @@ fn record_path(
 }
 
 /// Whether a path of generated names is listed so.
-fn is_path(alloc: Global, own: &str) -> Result<bool, StoreFault> {
+fn is_path(alloc: Global, own: &str) -> Result<bool, StoreError> {
     let names = generated(alloc)?;
     let mut builder = ExpressionStoreBuilder::new(alloc, 1);
     let recorded = record_path(&mut builder, names);
@@ -176,7 +176,7 @@ fn generated_names_are_numbered_by_first_printing(rt: HostRuntime) -> Result<(),
 }
 
 /// Whether an empty store with a jump whose label stands behind a border is listed so.
-fn is_unreachable(alloc: Global, label: &str, own: &str) -> Result<bool, StoreFault> {
+fn is_unreachable(alloc: Global, label: &str, own: &str) -> Result<bool, StoreError> {
     let name = Name::Text(Text::new(alloc, label)?);
     let mut builder = ExpressionStoreBuilder::new(alloc, 1);
     let reported = builder.report(ExpressionStoreDiagnostics::UnreachableLabel {
@@ -189,7 +189,7 @@ fn is_unreachable(alloc: Global, label: &str, own: &str) -> Result<bool, StoreFa
 }
 
 #[test]
-fn a_label_behind_a_border_is_told(rt: HostRuntime) -> Result<(), Fail> {
+fn a_label_behind_a_barrier_is_emitted(rt: HostRuntime) -> Result<(), Fail> {
     let text = "body -\ndiag UnreachableLabel 'a @3.4\n";
     let is_listed = is_unreachable(rt.alloc(), "'a", text)?;
     assert!(rt; is_listed);
@@ -206,7 +206,7 @@ const AWAIT: &str = r#"{"nodes": [
 ]}"#;
 
 #[test]
-fn an_await_in_a_constant_alone_stands_in_a_constant(rt: HostRuntime) {
+fn an_await_in_a_constant_alone_corresponds_in_a_constant(rt: HostRuntime) {
     let script = Script {
         limit: u32::MAX,
         calls: &[(Call::Constant, Ok(true))],

@@ -1,31 +1,39 @@
 //! Documents of items, lowered, and what is asked of their bodies.
 
 use crate::documents::{AskOfDocument, Said, said_by_error, said_of};
+use crate::macros::{FOR_EXPRS, FOR_PATS, FOR_STMTS, FOR_TYPES};
 use hir_base::node::{AstPtr, HirFileId};
 use hir_env::env::LowerEnv;
 use hir_env::lang::LangItems;
+use hir_env::resolved::BuiltinShadowMode;
 use hir_lower::{Body, BodySourceMap, LowerError, lower_body};
-use hir_odd_envs::cyclic::Cyclic;
-use hir_odd_envs::endless::Endless;
-use hir_odd_envs::lacking::Lacking;
-use hir_odd_envs::one_module::OneModule;
 use hir_store::ids::{LangItemId, MacroDefId, ModuleId};
 use hir_tables::table::TableEnv;
+use hir_test_envs::beforehand::Beforehand;
+use hir_test_envs::cyclic::Cyclic;
+use hir_test_envs::endless::Endless;
+use hir_test_envs::lacking::Lacking;
+use hir_test_envs::one_module::OneModule;
+use hir_test_envs::one_shadow::OneShadow;
 use lower_json::document::{Document, Root, Tree};
 use std::alloc::Global;
 
 /// What answers where a body is lowered: the tables of its document, or an object.
 #[derive(Clone, Copy)]
-pub enum By {
+pub enum EnvironmentKind {
     Tables,
     /// The tables, as an object.
     Object,
-    /// Each call of a macro is expanded to another one.
+    /// Each macro call is expanded to another one.
     Endless,
     /// Each context was made in itself.
     Circles,
     /// What is known in this module alone.
     Module(ModuleId),
+    /// Names that are asked about with another shadow stand for nothing.
+    Shadow(BuiltinShadowMode),
+    /// Other calls were expanded beforehand for each call, others for each kind of what it stands for.
+    Beforehand,
     /// This item of the language isn't there.
     Without(LangItemId),
     /// The item of newer ranges with an included end is that of those with an excluded one.
@@ -33,10 +41,10 @@ pub enum By {
 }
 
 /// A lowered body with its source map, or why there is none.
-type Lowered = Result<(Body, BodySourceMap), LowerError>;
+pub type Lowered = Result<(Body, BodySourceMap), LowerError>;
 
 /// What is lowered. Whatever hands it on knows nothing of trees, which are dear to prove anything about.
-trait Item {
+pub trait Item {
     fn lowered<E: LowerEnv>(&self, alloc: Global, env: &E) -> Lowered;
 }
 
@@ -67,11 +75,11 @@ impl Item for Document {
     }
 }
 
-fn lowered_by_object<I: Item>(alloc: Global, object: &dyn LowerEnv, item: &I) -> Lowered {
+pub fn lowered_by_object<I: Item>(alloc: Global, object: &dyn LowerEnv, item: &I) -> Lowered {
     item.lowered(alloc, &object)
 }
 
-/// These are the items of the language.
+/// These are the lang items.
 fn lowered_with<'a, I: Item>(
     alloc: Global,
     behind: &'a TableEnv,
@@ -85,7 +93,7 @@ fn other_than(absent: LangItemId, item: Option<LangItemId>) -> Option<LangItemId
     if item == Some(absent) { None } else { item }
 }
 
-/// All items of the language but for one.
+/// All lang items except for one.
 fn items_without(absent: LangItemId) -> LangItems {
     let all = LangItems::numbered();
     LangItems {
@@ -115,25 +123,83 @@ fn items_without(absent: LangItemId) -> LangItems {
     }
 }
 
-fn lowered_by<I: Item>(alloc: Global, by: By, behind: &TableEnv, item: &I) -> Lowered {
+/// Other calls were expanded beforehand.
+fn lowered_with_pairs<I: Item>(alloc: Global, behind: &TableEnv, item: &I) -> Lowered {
+    let beforehand = Beforehand {
+        behind,
+        exprs: &FOR_EXPRS,
+        stmts: &FOR_STMTS,
+        pats: &FOR_PATS,
+        types: &FOR_TYPES,
+    };
+    lowered_by_object(alloc, &beforehand, item)
+}
+
+/// Each call is expanded to another one.
+fn lowered_without_end<I: Item>(alloc: Global, behind: &TableEnv, item: &I) -> Lowered {
+    lowered_by_object(alloc, &Endless { behind }, item)
+}
+
+/// Each context was made in itself.
+fn lowered_in_circles<I: Item>(alloc: Global, behind: &TableEnv, item: &I) -> Lowered {
+    let outer = MacroDefId(9);
+    lowered_by_object(alloc, &Cyclic { behind, outer }, item)
+}
+
+/// What is known in this module alone is known.
+fn lowered_in_module<I: Item>(
+    alloc: Global,
+    behind: &TableEnv,
+    module: ModuleId,
+    item: &I,
+) -> Lowered {
+    lowered_by_object(alloc, &OneModule { behind, module }, item)
+}
+
+/// Names that are asked about with another shadow stand for nothing.
+fn lowered_by_shadow<I: Item>(
+    alloc: Global,
+    behind: &TableEnv,
+    shadow: BuiltinShadowMode,
+    item: &I,
+) -> Lowered {
+    lowered_by_object(alloc, &OneShadow { behind, shadow }, item)
+}
+
+/// This item of the language isn't there.
+fn lowered_without<I: Item>(
+    alloc: Global,
+    behind: &TableEnv,
+    absent: LangItemId,
+    item: &I,
+) -> Lowered {
+    lowered_with(alloc, behind, &items_without(absent), item)
+}
+
+/// The newer ranges with an included end are made by the item of those with an excluded one.
+fn equal_items() -> LangItems {
     let numbered = LangItems::numbered();
+    LangItems {
+        range_inclusive_copy: numbered.range_copy,
+        ..numbered
+    }
+}
+
+fn lowered_with_equal_items<I: Item>(alloc: Global, behind: &TableEnv, item: &I) -> Lowered {
+    lowered_with(alloc, behind, &equal_items(), item)
+}
+
+fn lowered_by<I: Item>(alloc: Global, by: EnvironmentKind, behind: &TableEnv, item: &I) -> Lowered {
     match by {
-        By::Tables => item.lowered(alloc, behind),
-        By::Object => lowered_by_object(alloc, behind, item),
-        By::Endless => lowered_by_object(alloc, &Endless { behind }, item),
-        By::Circles => {
-            let outer = MacroDefId(9);
-            lowered_by_object(alloc, &Cyclic { behind, outer }, item)
-        }
-        By::Module(module) => lowered_by_object(alloc, &OneModule { behind, module }, item),
-        By::Without(absent) => lowered_with(alloc, behind, &items_without(absent), item),
-        By::EqualItems => {
-            let items = LangItems {
-                range_inclusive_copy: numbered.range_copy,
-                ..numbered
-            };
-            lowered_with(alloc, behind, &items, item)
-        }
+        EnvironmentKind::Tables => item.lowered(alloc, behind),
+        EnvironmentKind::Object => lowered_by_object(alloc, behind, item),
+        EnvironmentKind::Endless => lowered_without_end(alloc, behind, item),
+        EnvironmentKind::Circles => lowered_in_circles(alloc, behind, item),
+        EnvironmentKind::Module(module) => lowered_in_module(alloc, behind, module, item),
+        EnvironmentKind::Shadow(shadow) => lowered_by_shadow(alloc, behind, shadow, item),
+        EnvironmentKind::Beforehand => lowered_with_pairs(alloc, behind, item),
+        EnvironmentKind::Without(absent) => lowered_without(alloc, behind, absent, item),
+        EnvironmentKind::EqualItems => lowered_with_equal_items(alloc, behind, item),
     }
 }
 
@@ -144,7 +210,7 @@ pub trait AskOfBody {
 
 /// The question to the body that the item in a document is lowered to.
 struct OfBody<'a, Q> {
-    by: By,
+    by: EnvironmentKind,
     own: &'a Q,
 }
 
@@ -170,6 +236,6 @@ impl<Q: AskOfBody> AskOfDocument for OfBody<'_, Q> {
 }
 
 /// How the body answers that the item in the document of a text is lowered to.
-pub fn said_of_body<Q: AskOfBody>(alloc: Global, text: &str, by: By, own: &Q) -> Said {
+pub fn said_of_body<Q: AskOfBody>(alloc: Global, text: &str, by: EnvironmentKind, own: &Q) -> Said {
     said_of(alloc, Root::Fn, text, &OfBody { by, own })
 }

@@ -1,8 +1,8 @@
 //! Labels, types and lifetimes, with their nodes and back, and how many are stored.
 
 use crate::documents::Said;
-use crate::lowered::{By, said_of_body};
-use crate::ways::{Count, Leads, Part, Shown};
+use crate::lowered::{EnvironmentKind, said_of_body};
+use crate::mappings::{Count, Leads, Part, Shown};
 
 /// `fn f() { 'a: loop { a as &'x T } }`
 const LABEL_AND_TYPE: &str = r#"{"nodes": [
@@ -23,7 +23,7 @@ const LABEL_AND_TYPE: &str = r#"{"nodes": [
 ]}"#;
 
 const SHOWN: Shown<'static> = Shown {
-    ways: &[
+    mappings: &[
         (0, 3, Leads::Label(0)),
         (0, 9, Leads::Type_(1)),
         (0, 10, Leads::Lifetime(0)),
@@ -43,5 +43,7 @@ const SHOWN: Shown<'static> = Shown {
 
 #[test]
 fn labels_types_and_lifetimes_have_their_nodes(rt: HostRuntime) {
-    assert!(rt; said_of_body(rt.alloc(), LABEL_AND_TYPE, By::Tables, &SHOWN) == Said::Own);
+    assert!(rt;
+        said_of_body(rt.alloc(), LABEL_AND_TYPE, EnvironmentKind::Tables, &SHOWN) == Said::Own
+    );
 }

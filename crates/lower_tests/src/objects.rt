@@ -2,7 +2,8 @@
 
 use crate::documents::{Said, own_if};
 use crate::listings::said_of_body_listing;
-use crate::lowered::{AskOfBody, By, said_of_body};
+use crate::lowered::{AskOfBody, EnvironmentKind, said_of_body};
+use hir_env::resolved::BuiltinShadowMode;
 use hir_lower::{Body, BodySourceMap};
 use hir_store::ids::BlockId;
 use std::alloc::Global;
@@ -31,8 +32,15 @@ impl AskOfBody for Entered {
 pub const ENTERED: Entered = Entered([Some(BlockId(3)), Some(BlockId(4)), None]);
 
 #[test]
-fn blocks_are_noted_in_the_order_of_entering(rt: HostRuntime) {
-    assert!(rt; said_of_body(rt.alloc(), BLOCK_IN_BLOCK, By::Object, &ENTERED) == Said::Own);
+fn blocks_are_tracked_in_the_order_of_entering(rt: HostRuntime) {
+    assert!(rt;
+        said_of_body(
+            rt.alloc(),
+            BLOCK_IN_BLOCK,
+            EnvironmentKind::Object,
+            &ENTERED
+        ) == Said::Own
+    );
 }
 
 /// `fn f(C, x) { a..=b }`, where C stands for a constant and ranges are the newer ones.
@@ -76,5 +84,77 @@ binding 0 x plain - -
 
 #[test]
 fn names_are_looked_up_and_ranges_are_the_newer_ones(rt: HostRuntime) {
-    assert!(rt; said_of_body(rt.alloc(), NAMES_AND_RANGES, By::Object, &LISTED) == Said::Own);
+    assert!(rt;
+        said_of_body(
+            rt.alloc(),
+            NAMES_AND_RANGES,
+            EnvironmentKind::Object,
+            &LISTED
+        ) == Said::Own
+    );
+}
+
+/// `fn f(C) { C = 1; <!>::C = 2; }`, where C stands for a constant.
+const NAMES: &str = r#"{
+    "nodes": [
+        {"k": "Fn", "params": 1, "body": 4},
+        {"k": "ParamList", "params": [2]},
+        {"k": "Param", "pat": 3},
+        {"k": "IdentPat", "name": "C"},
+        {"k": "BlockExpr", "stmts": [5, 11]},
+        {"k": "ExprStmt", "expr": 6, "semi": true},
+        {"k": "BinExpr", "op": "=", "lhs": 7, "rhs": 10},
+        {"k": "PathExpr", "path": 8},
+        {"k": "Path", "segs": [9]},
+        {"k": "PathSegment", "seg": "name", "name": "C"},
+        {"k": "Literal", "lit": "int", "t": "1"},
+        {"k": "ExprStmt", "expr": 12, "semi": true},
+        {"k": "BinExpr", "op": "=", "lhs": 13, "rhs": 18},
+        {"k": "PathExpr", "path": 14},
+        {"k": "Path", "segs": [15, 17]},
+        {"k": "PathSegment", "seg": "type", "ty": 16},
+        {"k": "NeverType"},
+        {"k": "PathSegment", "seg": "name", "name": "C"},
+        {"k": "Literal", "lit": "int", "t": "2"}
+    ],
+    "env": {"resolve": [[0, "C", null, "const", null]]}
+}"#;
+
+/// What stands for something with this shadow: a name of a pattern, the assignee expression, or neither.
+const BY_SHADOW: [(BuiltinShadowMode, Text); 3] = [
+    (
+        BuiltinShadowMode::Other,
+        Text(
+            r"param (Path C)
+body r0=(Block - - - [(Semi (Assignment (Expr (Path C)) (Literal 1))) (Semi (Assignment (Expr (Path <!>::C)) (Literal 2)))] -)
+",
+        ),
+    ),
+    (
+        BuiltinShadowMode::Local,
+        Text(
+            r"param (Bind #0 -)
+body r0=(Block - - - [(Semi (Assignment (Path C) (Literal 1))) (Semi (Assignment (Path <!>::C) (Literal 2)))] -)
+binding 0 C plain - -
+",
+        ),
+    ),
+    (
+        BuiltinShadowMode::Module,
+        Text(
+            r"param (Bind #0 -)
+body r0=(Block - - - [(Semi (Assignment (Expr (Path C)) (Literal 1))) (Semi (Assignment (Expr (Path <!>::C)) (Literal 2)))] -)
+binding 0 C plain - -
+",
+        ),
+    ),
+];
+
+#[test]
+fn each_name_is_asked_about_with_its_shadow(rt: HostRuntime) {
+    for (shadow, listed) in BY_SHADOW.iter() {
+        assert!(rt;
+            said_of_body(rt.alloc(), NAMES, EnvironmentKind::Shadow(*shadow), listed) == Said::Own
+        );
+    }
 }

@@ -5,19 +5,22 @@ use crate::collectors::{Holds, collector, handed_out};
 use crate::documents::{AskOfDocument, Said, own_if, said_by_error, said_of};
 use crate::in_range::in_range;
 use crate::lacking::{NEWER_INCLUSIVE, NEWER_RANGE};
-use crate::lowered::{AskOfBody, By, said_of_body};
+use crate::lowered::{AskOfBody, EnvironmentKind, said_of_body};
 use crate::objects::{BLOCK_IN_BLOCK, Entered, Text as Listing};
 use crate::paths::EMPTY;
 use hir_base::node::{HirFileId, InFile, NodeId, TextRange};
 use hir_base::{Boxed, Seq, Text};
 use hir_env::env::LowerEnv;
 use hir_env::lang::LangItems;
+use hir_env::resolved::BuiltinShadowMode;
 use hir_lower::{Body, BodySourceMap, lower_function};
-use hir_odd_envs::lacking::Lacking;
 use hir_store::hir::Expr;
 use hir_store::ids::{BlockId, FunctionId, LangItemId, ModuleId};
 use hir_store::path::Path;
 use hir_syntax::ast::{self, BlockModifier, ConstArg, ExprKind, Lifetime};
+use hir_syntax::items::Fn;
+use hir_test_envs::lacking::Lacking;
+use hir_test_envs::one_shadow::OneShadow;
 use lower_json::document::{Document, Root, Tree};
 use std::alloc::{AllocError, Global};
 
@@ -44,7 +47,9 @@ pub const OWN_PARENTS: &str = r#"{
 
 #[test]
 fn a_search_ends_where_each_context_is_its_own_parent(rt: HostRuntime) {
-    assert!(rt; said_of_body(rt.alloc(), OWN_PARENTS, By::Circles, &NO_LABEL) == Said::Own);
+    assert!(rt;
+        said_of_body(rt.alloc(), OWN_PARENTS, EnvironmentKind::Circles, &NO_LABEL) == Said::Own
+    );
 }
 
 pub const OUTER: Entered = Entered([Some(BlockId(3)), None, None]);
@@ -55,9 +60,9 @@ pub const NEITHER: Entered = Entered([None, None, None]);
 #[test]
 fn a_block_is_asked_about_in_the_module_around_it(rt: HostRuntime) {
     let alloc = rt.alloc();
-    let root = By::Module(ModuleId(0));
+    let root = EnvironmentKind::Module(ModuleId(0));
     assert!(rt; said_of_body(alloc, BLOCK_IN_BLOCK, root, &OUTER) == Said::Own);
-    let other = By::Module(ModuleId(1));
+    let other = EnvironmentKind::Module(ModuleId(1));
     assert!(rt; said_of_body(alloc, BLOCK_IN_BLOCK, other, &NEITHER) == Said::Own);
 }
 
@@ -114,7 +119,7 @@ impl AskOfBody for ItemOfRecord {
 fn a_range_is_asked_about_in_its_module(rt: HostRuntime) {
     let alloc = rt.alloc();
     let items = LangItems::numbered();
-    let by = By::Module(ModuleId(0));
+    let by = EnvironmentKind::Module(ModuleId(0));
     let newer = ItemOfRecord(items.range_copy);
     assert!(rt; said_of_body(alloc, RANGE, by, &newer) == Said::Own);
     let older = ItemOfRecord(items.range);
@@ -132,8 +137,22 @@ pub const INCLUDED_END: Listing = Listing(
 #[test]
 fn items_of_the_language_may_be_equal(rt: HostRuntime) {
     let alloc = rt.alloc();
-    assert!(rt; said_of_body(alloc, NEWER_RANGE, By::EqualItems, &EXCLUDED_END) == Said::Own);
-    assert!(rt; said_of_body(alloc, NEWER_INCLUSIVE, By::EqualItems, &INCLUDED_END) == Said::Own);
+    assert!(rt;
+        said_of_body(
+            alloc,
+            NEWER_RANGE,
+            EnvironmentKind::EqualItems,
+            &EXCLUDED_END
+        ) == Said::Own
+    );
+    assert!(rt;
+        said_of_body(
+            alloc,
+            NEWER_INCLUSIVE,
+            EnvironmentKind::EqualItems,
+            &INCLUDED_END
+        ) == Said::Own
+    );
 }
 
 /// `fn f<'x, 'y>(_: Alias<'x, 'y>) -> (&'x u8, &'y u8) {}`, where the name stands for an alias.
@@ -160,31 +179,33 @@ pub const ALIASED: &str = r#"{
     "env": {"resolve": [[0, "Alias", ["alias", 3], null, null]]}
 }"#;
 
-/// How many lifetime parameters a function has, and how many of them are early bound, where no alias has an answer.
+/// How many lifetime parameters a function has, and how many of them are early bound, where no alias has an answer, and names that
+/// are asked about with another shadow than this one stand for nothing.
 #[derive(Clone, Copy)]
 pub struct Lifetimes {
+    shadow: BuiltinShadowMode,
     all: usize,
     early: u32,
 }
 
-pub const LIFETIMES: Lifetimes = Lifetimes { all: 2, early: 2 };
+pub const LIFETIMES: Lifetimes = Lifetimes {
+    shadow: BuiltinShadowMode::Module,
+    all: 2,
+    early: 2,
+};
 
-impl AskOfDocument for Lifetimes {
-    fn said(&self, alloc: Global, document: &mut Document) -> Said {
-        let Tree::Fn(item) = &document.tree else {
-            return Said::Other;
+impl Lifetimes {
+    /// Whether the function has so many, where this environment answers.
+    fn are_of<E: LowerEnv>(&self, alloc: Global, env: &E, item: &Fn) -> Said {
+        let one_shadow = OneShadow {
+            behind: env,
+            shadow: self.shadow,
         };
-        let items = LangItems::numbered();
-        let lacking = Lacking {
-            behind: &document.env,
-            items: &items,
-        };
-        let object: &dyn LowerEnv = &lacking;
         let written = InFile {
             file_id: HirFileId(0),
             value: item,
         };
-        match lower_function(alloc, &object, ModuleId(0), written, FunctionId(0)) {
+        match lower_function(alloc, &one_shadow, ModuleId(0), written, FunctionId(0)) {
             Ok((store, source_map, params, args, _ret, _has_self, _has_variadic)) => {
                 let all = params.lifetimes().len();
                 let early = params.early_bound_lifetimes_len;
@@ -199,9 +220,39 @@ impl AskOfDocument for Lifetimes {
     }
 }
 
+impl AskOfDocument for Lifetimes {
+    fn said(&self, alloc: Global, document: &mut Document) -> Said {
+        let Tree::Fn(item) = &document.tree else {
+            return Said::Other;
+        };
+        let items = LangItems::numbered();
+        let lacking = Lacking {
+            behind: &document.env,
+            items: &items,
+        };
+        let object: &dyn LowerEnv = &lacking;
+        self.are_of(alloc, &object, item)
+    }
+}
+
 #[test]
 fn an_alias_without_an_answer_constrains_nothing(rt: HostRuntime) {
     assert!(rt; said_of(rt.alloc(), Root::Fn, ALIASED, &LIFETIMES) == Said::Own);
+}
+
+const SHADOWS: [BuiltinShadowMode; 2] = [BuiltinShadowMode::Other, BuiltinShadowMode::Local];
+
+/// With another shadow the path is no alias, so all its lifetimes are constrained.
+#[test]
+fn an_alias_in_an_argument_is_asked_about_with_modules_first(rt: HostRuntime) {
+    for shadow in SHADOWS.iter() {
+        let lifetimes = Lifetimes {
+            shadow: *shadow,
+            all: 2,
+            early: 0,
+        };
+        assert!(rt; said_of(rt.alloc(), Root::Fn, ALIASED, &lifetimes) == Said::Own);
+    }
 }
 
 const TEXT_RANGE: TextRange = TextRange { start: 0, end: 1 };

@@ -2,7 +2,7 @@
 
 use crate::collectors::{Call, Holds, Script, said_of_calls};
 use crate::documents::{Said, own_if};
-use crate::lowered::{AskOfBody, By, said_of_body};
+use crate::lowered::{AskOfBody, EnvironmentKind, said_of_body};
 use hir_lower::{Body, BodySourceMap};
 use hir_store::ids::{BindingId, ExprId};
 use hir_store::store::ExpressionStore;
@@ -103,25 +103,25 @@ impl AskOfBody for Owned {
 #[test]
 fn a_closure_owns_its_parameters_and_what_its_body_binds(rt: HostRuntime) {
     let owned = Owned([None, Some(ExprId(1)), Some(ExprId(1)), None]);
-    assert!(rt; said_of_body(rt.alloc(), CLOSURE, By::Tables, &owned) == Said::Own);
+    assert!(rt; said_of_body(rt.alloc(), CLOSURE, EnvironmentKind::Tables, &owned) == Said::Own);
 }
 
 #[test]
 fn a_coroutine_owns_what_none_in_it_owns(rt: HostRuntime) {
     let owned = Owned([Some(ExprId(3)), Some(ExprId(1)), Some(ExprId(3)), None]);
-    assert!(rt; said_of_body(rt.alloc(), COROUTINES, By::Tables, &owned) == Said::Own);
+    assert!(rt; said_of_body(rt.alloc(), COROUTINES, EnvironmentKind::Tables, &owned) == Said::Own);
 }
 
 #[test]
 fn a_const_block_owns_by_itself_and_a_length_by_its_expression(rt: HostRuntime) {
     let owned = Owned([Some(ExprId(4)), Some(ExprId(1)), None, None]);
-    assert!(rt; said_of_body(rt.alloc(), CONSTANTS, By::Tables, &owned) == Said::Own);
+    assert!(rt; said_of_body(rt.alloc(), CONSTANTS, EnvironmentKind::Tables, &owned) == Said::Own);
 }
 
 #[test]
 fn a_binding_that_nothing_reaches_is_owned(rt: HostRuntime) {
     let owned = Owned([Some(ExprId(2)), None, None, None]);
-    assert!(rt; said_of_body(rt.alloc(), UNREACHED, By::Tables, &owned) == Said::Own);
+    assert!(rt; said_of_body(rt.alloc(), UNREACHED, EnvironmentKind::Tables, &owned) == Said::Own);
 }
 
 /// The argument is lowered, and then the path with it.

@@ -1,8 +1,8 @@
 //! The ways between written nodes and what patterns become, and what the parameters of a function are, which no listing shows.
 
 use crate::documents::{Said, own_if};
-use crate::lowered::{AskOfBody, By, said_of_body};
-use crate::ways::{Leads, Part, Shown};
+use crate::lowered::{AskOfBody, EnvironmentKind, said_of_body};
+use crate::mappings::{Leads, Part, Shown};
 use hir_base::node::NodeId;
 use hir_lower::{Body, BodySourceMap};
 use hir_store::ids::{BindingId, PatId};
@@ -32,7 +32,7 @@ const PATTERNS: &str = r#"{"nodes": [
 /// The literal pattern, its literal, the range, its side, the side's literal, the name and the predicate; and the field that the name's
 /// pattern comes from.
 const OF_PATTERNS: Shown<'static> = Shown {
-    ways: &[
+    mappings: &[
         (0, 5, Leads::Pat(0)),
         (0, 6, Leads::Expr(0)),
         (0, 7, Leads::Pat(1)),
@@ -92,6 +92,6 @@ const PARAMS: Params = Params {
 #[test]
 fn parts_of_patterns_lead_to_what_they_become(rt: HostRuntime) {
     let alloc = rt.alloc();
-    assert!(rt; said_of_body(alloc, PATTERNS, By::Tables, &OF_PATTERNS) == Said::Own);
-    assert!(rt; said_of_body(alloc, PATTERNS, By::Tables, &PARAMS) == Said::Own);
+    assert!(rt; said_of_body(alloc, PATTERNS, EnvironmentKind::Tables, &OF_PATTERNS) == Said::Own);
+    assert!(rt; said_of_body(alloc, PATTERNS, EnvironmentKind::Tables, &PARAMS) == Said::Own);
 }

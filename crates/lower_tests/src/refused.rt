@@ -14,17 +14,17 @@ use crate::items::{
     ALIASES, BARE_ALIASES, BOUNDED, IMPLS, Item, MODULE, PARAMS, TRAITS, said_of_item,
 };
 use crate::lacking::{NEWER_INCLUSIVE, NEWER_RANGE};
-use crate::lowered::{By, said_of_body};
+use crate::lowered::{EnvironmentKind, said_of_body};
 use crate::objects::{BLOCK_IN_BLOCK, ENTERED};
 use crate::odd::{
     ALIASED, EXCLUDED_END, INCLUDED_END, ItemOfRecord, LIFETIMES, LabelledUnsafe, NEITHER, OUTER,
     OWN_PARENTS, RANGE, RANGE_INSIDE,
 };
 use crate::paths::EMPTY;
+use crate::reverse_mappings::{ARGUMENTS, FIELD_NODE, LENT, RECORD};
 use crate::small::{CONSTANTS, NESTED, PATHS_AND_IMPLS, said_in_each_room};
 use crate::stacks::FIRST;
 use crate::types::said_of_impl;
-use crate::ways_back::{ARGUMENTS, FIELD_NODE, LENT, RECORD};
 use hir_env::lang::LangItems;
 use hir_store::ids::{LangItemId, ModuleId};
 use lower_json::document::Root;
@@ -74,38 +74,78 @@ fn bodies(rt: HostRuntime) {
     assert!(rt;
         passes(
             &rt,
-            said_of_body(alloc, BLOCK_IN_BLOCK, By::Tables, &ENTERED)
+            said_of_body(alloc, BLOCK_IN_BLOCK, EnvironmentKind::Tables, &ENTERED)
         )
     );
-    assert!(rt; passes(&rt, said_of_body(alloc, RECORD, By::Tables, &FIELD_NODE)));
-    assert!(rt; passes(&rt, said_of_body(alloc, TWICE, By::Tables, &OF_TWICE)));
-    assert!(rt; passes(&rt, said_of_body(alloc, FUNCTION, By::Tables, &BoundByLets)));
-    assert!(rt; passes(&rt, said_of_body(alloc, CLOSURE, By::Tables, &NUMBERS)));
+    assert!(rt;
+        passes(
+            &rt,
+            said_of_body(alloc, RECORD, EnvironmentKind::Tables, &FIELD_NODE)
+        )
+    );
+    assert!(rt;
+        passes(
+            &rt,
+            said_of_body(alloc, TWICE, EnvironmentKind::Tables, &OF_TWICE)
+        )
+    );
+    assert!(rt;
+        passes(
+            &rt,
+            said_of_body(alloc, FUNCTION, EnvironmentKind::Tables, &BoundByLets)
+        )
+    );
+    assert!(rt;
+        passes(
+            &rt,
+            said_of_body(alloc, CLOSURE, EnvironmentKind::Tables, &NUMBERS)
+        )
+    );
 }
 
 #[test]
 fn bodies_where_objects_answer(rt: HostRuntime) {
     let alloc = rt.alloc();
-    assert!(rt; passes(&rt, said_of_body(alloc, ENDLESS, By::Object, &SIX)));
-    assert!(rt; passes(&rt, said_of_body(alloc, NONE_ENTERED, By::Object, &NONE)));
     assert!(rt;
         passes(
             &rt,
-            said_of_body(alloc, ITS_OWN_PARENT, By::Object, &NO_LABEL)
-        )
-    );
-    assert!(rt; passes(&rt, said_of_body(alloc, OTHER_KIND, By::Object, &MISSING)));
-    assert!(rt; passes(&rt, said_of_body(alloc, CALLS, By::Endless, &OF_ARGUMENTS)));
-    assert!(rt;
-        passes(
-            &rt,
-            said_of_body(alloc, NO_CALLS, By::Endless, &OF_NO_ARGUMENTS)
+            said_of_body(alloc, ENDLESS, EnvironmentKind::Object, &SIX)
         )
     );
     assert!(rt;
         passes(
             &rt,
-            said_of_body(alloc, OWN_PARENTS, By::Circles, &NO_LABEL)
+            said_of_body(alloc, NONE_ENTERED, EnvironmentKind::Object, &NONE)
+        )
+    );
+    assert!(rt;
+        passes(
+            &rt,
+            said_of_body(alloc, ITS_OWN_PARENT, EnvironmentKind::Object, &NO_LABEL)
+        )
+    );
+    assert!(rt;
+        passes(
+            &rt,
+            said_of_body(alloc, OTHER_KIND, EnvironmentKind::Object, &MISSING)
+        )
+    );
+    assert!(rt;
+        passes(
+            &rt,
+            said_of_body(alloc, CALLS, EnvironmentKind::Endless, &OF_ARGUMENTS)
+        )
+    );
+    assert!(rt;
+        passes(
+            &rt,
+            said_of_body(alloc, NO_CALLS, EnvironmentKind::Endless, &OF_NO_ARGUMENTS)
+        )
+    );
+    assert!(rt;
+        passes(
+            &rt,
+            said_of_body(alloc, OWN_PARENTS, EnvironmentKind::Circles, &NO_LABEL)
         )
     );
 }
@@ -113,9 +153,9 @@ fn bodies_where_objects_answer(rt: HostRuntime) {
 #[test]
 fn bodies_where_one_module_answers(rt: HostRuntime) {
     let alloc = rt.alloc();
-    let root = By::Module(ModuleId(0));
+    let root = EnvironmentKind::Module(ModuleId(0));
     assert!(rt; passes(&rt, said_of_body(alloc, BLOCK_IN_BLOCK, root, &OUTER)));
-    let other = By::Module(ModuleId(1));
+    let other = EnvironmentKind::Module(ModuleId(1));
     assert!(rt; passes(&rt, said_of_body(alloc, BLOCK_IN_BLOCK, other, &NEITHER)));
 }
 
@@ -124,12 +164,12 @@ fn bodies_with_ranges(rt: HostRuntime) {
     let alloc = rt.alloc();
     let items = LangItems::numbered();
     let older = ItemOfRecord(items.range);
-    let root = By::Module(ModuleId(0));
+    let root = EnvironmentKind::Module(ModuleId(0));
     assert!(rt; passes(&rt, said_of_body(alloc, RANGE_INSIDE, root, &older)));
     let absent = ItemOfRecord(None);
-    let without = By::Without(LangItemId(5));
+    let without = EnvironmentKind::Without(LangItemId(5));
     assert!(rt; passes(&rt, said_of_body(alloc, RANGE, without, &absent)));
-    let equal = By::EqualItems;
+    let equal = EnvironmentKind::EqualItems;
     assert!(rt; passes(&rt, said_of_body(alloc, NEWER_RANGE, equal, &EXCLUDED_END)));
     assert!(rt;
         passes(
@@ -201,9 +241,9 @@ fn entries_of_arenas(rt: HostRuntime) {
     assert!(rt; fills_its_page(alloc));
 }
 
-/// The ways back ask for no memory.
+/// The reverse mappings ask for no memory.
 #[test]
-fn stacks_and_the_ways_back(rt: HostRuntime) {
+fn stacks_and_the_mappings_back(rt: HostRuntime) {
     let alloc = rt.alloc();
     assert!(rt; passes(&rt, said_of(alloc, Root::Path, EMPTY, &FIRST)));
     assert!(rt; passes(&rt, said_of(alloc, Root::Path, ARGUMENTS, &LENT)));

@@ -2,8 +2,8 @@
 
 use crate::documents::Said;
 use crate::inner::{Became, Form};
-use crate::lowered::{By, said_of_body};
-use crate::ways::{Count, Leads, Shown};
+use crate::lowered::{EnvironmentKind, said_of_body};
+use crate::mappings::{Count, Leads, Shown};
 
 /// `fn f() { a? }`
 const QUESTION: &str = r#"{"nodes": [
@@ -97,7 +97,9 @@ const OF_QUESTION: Became = Became {
 
 #[test]
 fn a_question_leads_to_its_match(rt: HostRuntime) {
-    assert!(rt; said_of_body(rt.alloc(), QUESTION, By::Tables, &OF_QUESTION) == Said::Own);
+    assert!(rt;
+        said_of_body(rt.alloc(), QUESTION, EnvironmentKind::Tables, &OF_QUESTION) == Said::Own
+    );
 }
 
 const MISSING: Became = Became {
@@ -113,7 +115,9 @@ const MISSING: Became = Became {
 
 #[test]
 fn a_question_without_its_items_leads_nowhere(rt: HostRuntime) {
-    assert!(rt; said_of_body(rt.alloc(), WITHOUT_ITEM, By::Tables, &MISSING) == Said::Own);
+    assert!(rt;
+        said_of_body(rt.alloc(), WITHOUT_ITEM, EnvironmentKind::Tables, &MISSING) == Said::Own
+    );
 }
 
 const OF_TRY: Became = Became {
@@ -129,7 +133,7 @@ const OF_TRY: Became = Became {
 
 #[test]
 fn a_try_leads_to_its_labelled_block(rt: HostRuntime) {
-    assert!(rt; said_of_body(rt.alloc(), TRY, By::Tables, &OF_TRY) == Said::Own);
+    assert!(rt; said_of_body(rt.alloc(), TRY, EnvironmentKind::Tables, &OF_TRY) == Said::Own);
 }
 
 const OF_TYPED: Became = Became {
@@ -145,7 +149,7 @@ const OF_TYPED: Became = Became {
 
 #[test]
 fn a_typed_try_leads_to_the_labelled_block_inside(rt: HostRuntime) {
-    assert!(rt; said_of_body(rt.alloc(), TYPED, By::Tables, &OF_TYPED) == Said::Own);
+    assert!(rt; said_of_body(rt.alloc(), TYPED, EnvironmentKind::Tables, &OF_TYPED) == Said::Own);
 }
 
 const OF_FOR: Became = Became {
@@ -161,22 +165,29 @@ const OF_FOR: Became = Became {
 
 #[test]
 fn a_for_leads_to_its_outer_match(rt: HostRuntime) {
-    assert!(rt; said_of_body(rt.alloc(), FOR, By::Tables, &OF_FOR) == Said::Own);
+    assert!(rt; said_of_body(rt.alloc(), FOR, EnvironmentKind::Tables, &OF_FOR) == Said::Own);
 }
 
 #[test]
 fn a_for_without_its_items_leads_nowhere(rt: HostRuntime) {
-    assert!(rt; said_of_body(rt.alloc(), FOR_WITHOUT_ITEM, By::Tables, &MISSING) == Said::Own);
+    assert!(rt;
+        said_of_body(
+            rt.alloc(),
+            FOR_WITHOUT_ITEM,
+            EnvironmentKind::Tables,
+            &MISSING
+        ) == Said::Own
+    );
 }
 
 const OF_HEAD: Shown<'static> = Shown {
-    ways: &[(0, 5, Leads::Expr(0))],
+    mappings: &[(0, 5, Leads::Expr(0))],
     back: &[],
     counts: &[],
 };
 
 const OF_DISABLED_HEAD: Shown<'static> = Shown {
-    ways: &[(0, 5, Leads::Nowhere)],
+    mappings: &[(0, 5, Leads::Nowhere)],
     back: &[],
     counts: &[],
 };
@@ -184,8 +195,13 @@ const OF_DISABLED_HEAD: Shown<'static> = Shown {
 #[test]
 fn the_head_of_a_for_leads_to_itself_and_nowhere_where_it_is_disabled(rt: HostRuntime) {
     let alloc = rt.alloc();
-    assert!(rt; said_of_body(alloc, FOR, By::Tables, &OF_HEAD) == Said::Own);
+    assert!(rt; said_of_body(alloc, FOR, EnvironmentKind::Tables, &OF_HEAD) == Said::Own);
     assert!(rt;
-        said_of_body(alloc, FOR_OF_DISABLED_HEAD, By::Tables, &OF_DISABLED_HEAD) == Said::Own
+        said_of_body(
+            alloc,
+            FOR_OF_DISABLED_HEAD,
+            EnvironmentKind::Tables,
+            &OF_DISABLED_HEAD
+        ) == Said::Own
     );
 }

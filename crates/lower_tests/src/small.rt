@@ -44,7 +44,7 @@ const ONE: &str = r#"{"nodes": [
     {"k": "Literal", "lit": "int", "t": "1"}
 ]}"#;
 
-/// The same with a call of a macro that stands for a call, and so on, one more than may be entered.
+/// The same with a macro call that stands for a call, and so on, one more than may be entered.
 pub const NESTED: &str = r#"{
     "nodes": [
         {"k": "Path", "segs": [1]},

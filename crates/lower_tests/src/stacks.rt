@@ -3,7 +3,7 @@
 use crate::documents::{AskOfDocument, Said, own_if, said_of};
 use crate::paths::EMPTY;
 use hir_env::env::LowerEnv;
-use hir_lower::{LabelStacks, Looks, find_label};
+use hir_lower::{LabelStacks, ProbeCount, find_label};
 use hir_store::ids::{HygieneId, LabelId};
 use hir_store::name::Name;
 use lower_json::document::{Document, Root};
@@ -27,7 +27,7 @@ fn enter_all(stacks: &mut LabelStacks, labels: u32) -> Result<(), AllocError> {
 }
 
 fn is_found<E: LowerEnv>(env: &E, stacks: &LabelStacks, own: Found) -> bool {
-    let mut looks = Looks::new();
+    let mut looks = ProbeCount::new();
     let name = Name::Generated(own.name);
     let label = find_label(env, stacks, &name, HygieneId::ROOT, &mut looks);
     label.ok() == own.label && looks.count() == own.looks

@@ -1,9 +1,9 @@
-//! What is assigned to: places lead to expressions, and what is taken apart leads to patterns. No look-up of written patterns answers what
-//! is assigned to.
+//! The assignee expression: places lead to expressions, and what is taken apart leads to patterns. No look-up of written patterns answers
+//! what is assigned to.
 
 use crate::documents::Said;
-use crate::lowered::{By, said_of_body};
-use crate::ways::{Leads, Part, Shown};
+use crate::lowered::{EnvironmentKind, said_of_body};
+use crate::mappings::{Leads, Part, Shown};
 
 /// `fn f() { (a, (b), ..) = c }`
 const TARGETS: &str = r#"{"nodes": [
@@ -26,7 +26,7 @@ const TARGETS: &str = r#"{"nodes": [
 
 /// The tuple, `a`, the parentheses, `b`, the two dots and `c`.
 const OF_PLACES: Shown<'static> = Shown {
-    ways: &[
+    mappings: &[
         (0, 3, Leads::Target(2)),
         (0, 4, Leads::Expr(0)),
         (0, 7, Leads::Expr(1)),
@@ -40,7 +40,9 @@ const OF_PLACES: Shown<'static> = Shown {
 
 #[test]
 fn places_lead_to_expressions_and_a_tuple_to_its_pattern(rt: HostRuntime) {
-    assert!(rt; said_of_body(rt.alloc(), TARGETS, By::Tables, &OF_PLACES) == Said::Own);
+    assert!(rt;
+        said_of_body(rt.alloc(), TARGETS, EnvironmentKind::Tables, &OF_PLACES) == Said::Own
+    );
 }
 
 /// `fn f() { [a, .., S(b), S { x: c }] = d }`
@@ -75,7 +77,7 @@ const KINDS: &str = r#"{"nodes": [
 
 /// The array, the two dots, the call, its callee, the record and the field's value; and the field that the value's pattern comes from.
 const OF_KINDS: Shown<'static> = Shown {
-    ways: &[
+    mappings: &[
         (0, 3, Leads::Target(6)),
         (0, 7, Leads::Target(5)),
         (0, 8, Leads::Target(2)),
@@ -89,7 +91,7 @@ const OF_KINDS: Shown<'static> = Shown {
 
 #[test]
 fn what_is_taken_apart_leads_to_patterns_alone(rt: HostRuntime) {
-    assert!(rt; said_of_body(rt.alloc(), KINDS, By::Tables, &OF_KINDS) == Said::Own);
+    assert!(rt; said_of_body(rt.alloc(), KINDS, EnvironmentKind::Tables, &OF_KINDS) == Said::Own);
 }
 
 /// `fn f() { ((a, m!())) = 1; n!() = 2 }`, where m stands for `_`, and n for `[b]`.
@@ -123,7 +125,7 @@ const CALLS: &str = r#"{
 /// The parentheses, the tuple, `a`, the call that is an element and the one that is the whole; `_`, the array and `b` in their files; and
 /// the nodes that the patterns of `_` and of the array come from.
 const OF_CALLS: Shown<'static> = Shown {
-    ways: &[
+    mappings: &[
         (0, 4, Leads::Nowhere),
         (0, 5, Leads::Target(2)),
         (0, 6, Leads::Expr(0)),
@@ -139,7 +141,7 @@ const OF_CALLS: Shown<'static> = Shown {
 
 #[test]
 fn a_call_that_is_assigned_to_leads_to_its_pattern_but_not_as_an_element(rt: HostRuntime) {
-    assert!(rt; said_of_body(rt.alloc(), CALLS, By::Tables, &OF_CALLS) == Said::Own);
+    assert!(rt; said_of_body(rt.alloc(), CALLS, EnvironmentKind::Tables, &OF_CALLS) == Said::Own);
 }
 
 /// `fn f() { [m!()] = 1; p!() = 2; q!()(a) = 3 }`, where m stands for `n!()` and n for `..`, p for `x` and q for `S`.
@@ -184,7 +186,7 @@ const NESTED: &str = r#"{
 /// The array and the call for its dots, the inner call and the dots; the call for a place, and the place; the call with the argument, the
 /// call for its callee, the argument, and the callee.
 const OF_NESTED: Shown<'static> = Shown {
-    ways: &[
+    mappings: &[
         (0, 4, Leads::Target(1)),
         (0, 5, Leads::Target(0)),
         (1, 21, Leads::Nowhere),
@@ -202,5 +204,39 @@ const OF_NESTED: Shown<'static> = Shown {
 
 #[test]
 fn a_call_leads_to_dots_and_to_a_place_but_not_to_a_callee(rt: HostRuntime) {
-    assert!(rt; said_of_body(rt.alloc(), NESTED, By::Tables, &OF_NESTED) == Said::Own);
+    assert!(rt; said_of_body(rt.alloc(), NESTED, EnvironmentKind::Tables, &OF_NESTED) == Said::Own);
+}
+
+/// `fn f() { m!() = 1 }`, where m stands for `n!()`, and n for `_`, which a condition disables.
+const DISABLED: &str = r#"{
+    "nodes": [
+        {"k": "Fn", "body": 1},
+        {"k": "BlockExpr", "tail": 2},
+        {"k": "BinExpr", "op": "=", "lhs": 3, "rhs": 5},
+        {"k": "MacroExpr", "call": 4},
+        {"k": "MacroCall"},
+        {"k": "Literal", "lit": "int", "t": "1"},
+        {"k": "MacroExpr", "call": 7},
+        {"k": "MacroCall"},
+        {"k": "UnderscoreExpr"}
+    ],
+    "env": {"disabled": [[2, 8, 1]], "macros": [[0, 4, "file", 1, 6], [1, 7, "file", 2, 8]]}
+}"#;
+
+/// Both calls, and `_`; and the node that the pattern comes from.
+const OF_DISABLED: Shown<'static> = Shown {
+    mappings: &[
+        (0, 3, Leads::Target(0)),
+        (1, 6, Leads::Target(0)),
+        (2, 8, Leads::Nowhere),
+    ],
+    back: &[(Part::Pat(0), 8)],
+    counts: &[],
+};
+
+#[test]
+fn calls_lead_to_the_place_that_a_disabled_expression_is(rt: HostRuntime) {
+    assert!(rt;
+        said_of_body(rt.alloc(), DISABLED, EnvironmentKind::Tables, &OF_DISABLED) == Said::Own
+    );
 }

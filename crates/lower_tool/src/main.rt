@@ -5,7 +5,7 @@
 mod streams;
 
 use lower_run::failure::Failure;
-use lower_run::run::run;
+use lower_run::run::{ByTables, run};
 use std::env;
 use std::process::ExitCode;
 use std::rt::Env;
@@ -21,6 +21,7 @@ fn main(rt: HostRuntime) -> ExitCode {
     let status = match words(&rt) {
         Ok(words) => run(
             rt.alloc(),
+            &ByTables,
             words.as_slice(),
             &mut rt.stdin().lock(),
             &mut rt.stdout(),

@@ -1,6 +1,6 @@
 //! Streams that fail in a way that no file does.
 
-use lower_run::run::run;
+use lower_run::run::{ByTables, run};
 use std::alloc::Global;
 use std::io::{self, ErrorKind, Read, Write};
 
@@ -31,6 +31,7 @@ fn a_read_that_fails_in_mid_stream_is_a_fault(rt: HostRuntime) {
     let mut errors = [0u8; 13];
     let status = run(
         rt.alloc(),
+        &ByTables,
         &["body"],
         &mut input,
         &mut out.as_mut_slice(),
@@ -104,6 +105,7 @@ fn ends_with(alloc: Global, reads: u32, writes: u32, said: &[u8; 14]) -> (u8, bo
     let mut errors = [0u8; 14];
     let status = run(
         alloc,
+        &ByTables,
         &["path"],
         &mut input,
         &mut out,
@@ -144,6 +146,7 @@ fn status_behind(alloc: Global, word: &str, text: &[u8], writes: u32, says: u32)
     let mut input = text;
     run(
         alloc,
+        &ByTables,
         &[word],
         &mut input,
         &mut Filling { calls: writes },

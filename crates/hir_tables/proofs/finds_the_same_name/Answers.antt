@@ -1,4 +1,4 @@
-use Rattle.hir_tables.proofs.Laws.{names_as_keys as proved}
+use Rattle.hir_tables.proofs.Theorems.{names_as_keys as proved}
 use Rattle.hir_tables.proofs.finds_the_same_name.Goals as goal
 
 pub returns : goal.returns

@@ -1,4 +1,4 @@
-use Rattle.hir_tables.proofs.Laws.{places_as_keys as proved}
+use Rattle.hir_tables.proofs.Theorems.{places_as_keys as proved}
 use Rattle.hir_tables.proofs.finds_the_same_node.Goals as goal
 
 pub returns : goal.returns

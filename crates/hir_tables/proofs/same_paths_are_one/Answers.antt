@@ -1,4 +1,4 @@
-use Rattle.hir_tables.proofs.Laws.{same_paths_are_one as proved}
+use Rattle.hir_tables.proofs.Theorems.{same_paths_are_one as proved}
 use Rattle.hir_tables.proofs.same_paths_are_one.Goals as goal
 
 pub returns : goal.returns

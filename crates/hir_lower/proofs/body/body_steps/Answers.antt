@@ -7,18 +7,18 @@ use Rattle.hir_store.specs.declared.diagnostics.AwaitLocation.{AwaitLocation}
 use Rattle.hir_store.specs.declared.ids.DefWithBodyId.{DefWithBodyId}
 use Rattle.hir_store.specs.declared.ids.ModuleId.{ModuleId}
 use Rattle.hir_env.specs.Answers.{Answers}
-use Rattle.hir_env.specs.declared.place.ImplTrait.TheVariants as becomes
-use Rattle.hir_env.specs.declared.place.LifetimeScope.TheVariants as scope
-use Rattle.hir_env.specs.declared.place.LoweringMode.TheVariants.{Analysis}
-use Rattle.hir_lower_handlers.specs.Spots.{spot_at}
+use Rattle.hir_env.specs.declared.ctx.ImplTrait.TheVariants as becomes
+use Rattle.hir_env.specs.declared.ctx.LifetimeScope.TheVariants as scope
+use Rattle.hir_env.specs.declared.ctx.LoweringMode.TheVariants.{Analysis}
+use Rattle.hir_lower_callbacks.specs.ResolveCtxs.{rctx_at}
 use Rattle.hir_lower.specs.Formals.{item_formals, self_source}
-use Rattle.hir_lower.specs.Roots.{await_location, body_spot}
+use Rattle.hir_lower.specs.Roots.{await_location, body_rctx}
 use Rattle.hir_lower.proofs.body.body_steps.Goals as goal
 
 -- `self` is read where the body is, as far as it goes
 same_self : (env : Answers) (item : DefWithBodyId) (file : HirFileId) (inside : ModuleId) (is_async : Bool) (params : Option ParamList)
     (has_body : Bool) (awaits_in : Option AwaitLocation) (left : ℕ) → awaits_in ≡ await_location is_async item → left ≡ env.expansion_limit
-    → self_source (item_formals (spot_at env (record {
+    → self_source (item_formals (rctx_at env (record {
       file_id = file;
       module_id = inside;
       mode = Analysis;
@@ -28,9 +28,9 @@ same_self : (env : Answers) (item : DefWithBodyId) (file : HirFileId) (inside : 
       lifetimes = scope.Nowhere;
       left = left;
     })) item params has_body).receiver
-    ≡ self_source (item_formals (body_spot env item file inside is_async) item params has_body).receiver
+    ≡ self_source (item_formals (body_rctx env item file inside is_async) item params has_body).receiver
 same_self env item file inside is_async params has_body awaits_in left h k = λ i.
-    self_source (item_formals (spot_at env (record {
+    self_source (item_formals (rctx_at env (record {
       file_id = file;
       module_id = inside;
       mode = Analysis;
@@ -101,9 +101,6 @@ returns-in-Ok-finished-clause-in_range g c = grind (arith, common_steps)
 
 pub returns-in-Err-clause-own : goal.returns-in-Err-clause-own
 returns-in-Err-clause-own g c = grind (arith, common_steps)
-
-pub returns-in-Err-clause-full : goal.returns-in-Err-clause-full
-returns-in-Err-clause-full g c = grind (arith, common_steps)
 
 pub returns-in-Err-finished-clause-in_range : goal.returns-in-Err-finished-clause-in_range
 returns-in-Err-finished-clause-in_range g c = grind (arith, common_steps)

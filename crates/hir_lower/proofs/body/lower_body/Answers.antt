@@ -1,7 +1,7 @@
 use Rattle.std.proofs.lemmas.Grind.{common_steps}
 use Rattle.std.proofs.Common.{arith}
 use Rattle.hir_lower.proofs.Bodies.{body_expanded_if, body_fits_if, body_stored_if, body_too_large, has_body_if, one_result_if}
-use Rattle.hir_lower.proofs.MadeNames.{made_once_if}
+use Rattle.hir_lower.proofs.GeneratedNames.{made_once_if}
 use Rattle.hir_lower.proofs.Params.{params_if}
 use Rattle.hir_lower.proofs.body.lower_body.Goals as goal
 
@@ -39,6 +39,13 @@ returns-clause-made_once g c =
 pub returns-clause-fits : goal.returns-clause-fits
 returns-clause-fits g c =
     body_fits_if _ _ _ _ _ _ 4294967295 (λ r. r.0.store) (λ r. r.1.store) c.body_steps.result c.body_steps.ensures.stores
+
+pub returns-clause-steps : goal.returns-clause-steps
+returns-clause-steps g c = record {
+  stores = c.body_steps.ensures.stores;
+  given = c.body_steps.ensures.given;
+  full = c.body_steps.ensures.full;
+}
 
 pub returns-clause-own : goal.returns-clause-own
 returns-clause-own g c = grind (arith, common_steps)

@@ -1,6 +1,6 @@
 use Rattle.std.proofs.lemmas.Grind.{common_steps}
 use Rattle.std.proofs.Common.{arith}
-use Rattle.hir_one_result.specs.Formals.{plain_body}
+use Rattle.thm_body_result.specs.Formals.{plain_body}
 use Rattle.hir_lower.proofs.body.plain_form.Goals as goal
 
 pub returns : goal.returns

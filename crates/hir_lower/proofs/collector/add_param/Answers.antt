@@ -16,3 +16,6 @@ returns-clause-no_room c = grind (arith, common_steps)
 
 pub returns-clause-adds : goal.returns-clause-adds
 returns-clause-adds c = grind (arith, common_steps)
+
+pub returns-clause-tracks : goal.returns-clause-tracks
+returns-clause-tracks c = grind (arith, common_steps)

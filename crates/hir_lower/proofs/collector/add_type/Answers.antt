@@ -1,6 +1,7 @@
 use Rattle.hir_lower.proofs.Collecting.{type_collected}
 use Rattle.hir_lower.proofs.TypeMeanings.{adds_if, apart_type_if, ends_of_type_if, may_be_owned_type_if, no_room_if, outside_type_if}
-use Rattle.hir_lower.proofs.TypeMeanings.{defined_type_if, mapped_type_if, names_of_type_if, room_if, scopes_if, unchanged_if}
+use Rattle.hir_lower.proofs.TypeMeanings.{defined_type_if, mapped_type_if, names_of_type_if, tracks_of_type_if, room_if, scopes_if}
+use Rattle.hir_lower.proofs.TypeMeanings.{unchanged_if}
 use Rattle.hir_lower.proofs.TypeMeanings.{within_type_if}
 use Rattle.hir_lower.proofs.collector.add_type.Goals as goal
 
@@ -21,6 +22,9 @@ returns-clause-scopes c = λ n. scopes_if _ _ _ _ c.alloc_type.result c.alloc_ty
 
 pub returns-clause-names : goal.returns-clause-names
 returns-clause-names c = λ n. names_of_type_if _ _ _ _ c.alloc_type.result c.alloc_type.ensures n
+
+pub returns-clause-tracks : goal.returns-clause-tracks
+returns-clause-tracks c = λ n. tracks_of_type_if _ _ _ _ c.alloc_type.result c.alloc_type.ensures n
 
 pub returns-clause-outside : goal.returns-clause-outside
 returns-clause-outside c = λ out. outside_type_if _ _ _ _ c.alloc_type.result c.alloc_type.ensures out

@@ -3,6 +3,7 @@ use Rattle.std.proofs.Common.{arith}
 use Rattle.hir_lower.proofs.Collecting.{constant_collected}
 use Rattle.hir_lower.proofs.Meanings.{apart_if, defined_if, mapped_if, may_be_owned_if, names_if, outside_if, rooted_if, stays_unless}
 use Rattle.hir_lower.proofs.Meanings.{fits_if, too_large_if, within_if}
+use Rattle.hir_lower.proofs.Tracking.{root_tracked}
 use Rattle.hir_lower.proofs.collector.lower_root.Goals as goal
 
 pub returns-clause-rooted : goal.returns-clause-rooted
@@ -19,6 +20,9 @@ returns-clause-too_large g c = λ d is. too_large_if _ _ _ c.root_steps.result c
 
 pub returns-clause-names : goal.returns-clause-names
 returns-clause-names g c = λ d. names_if _ _ _ c.root_steps.result c.root_steps.ensures d
+
+pub returns-clause-tracked : goal.returns-clause-tracked
+returns-clause-tracked g c = λ d. root_tracked _ _ _ c.root_steps.result c.root_steps.ensures d
 
 pub returns-clause-apart : goal.returns-clause-apart
 returns-clause-apart g c = λ d m. apart_if _ _ _ c.root_steps.result c.root_steps.ensures d m

@@ -2,6 +2,7 @@ use Rattle.hir_lower.proofs.Collecting.{path_collected}
 use Rattle.hir_lower.proofs.PathMeanings.{arguments_if, data_if, ends_if, names_if, outside_path_if, path_apart_if, path_defined_if}
 use Rattle.hir_lower.proofs.PathMeanings.{path_mapped_if, path_may_be_owned_if, path_names_if, path_stays_if, path_too_large_if}
 use Rattle.hir_lower.proofs.PathMeanings.{path_fits_if, path_within_if, rooted_path_if}
+use Rattle.hir_lower.proofs.Tracking.{path_tracked}
 use Rattle.hir_lower.proofs.collector.lower_whole_path.Goals as goal
 
 pub returns-clause-data : goal.returns-clause-data
@@ -27,6 +28,9 @@ returns-clause-too_large g c = λ d is. path_too_large_if _ _ _ _ c.lower_path.r
 
 pub returns-clause-names : goal.returns-clause-names
 returns-clause-names g c = λ d. path_names_if _ _ _ _ c.lower_path.result c.lower_path.ensures d
+
+pub returns-clause-tracked : goal.returns-clause-tracked
+returns-clause-tracked g c = λ d. path_tracked _ _ _ _ c.lower_path.result c.lower_path.ensures d
 
 pub returns-clause-stays : goal.returns-clause-stays
 returns-clause-stays g c = λ m n. path_stays_if _ _ _ _ c.lower_path.result c.lower_path.ensures m n

@@ -1,5 +1,5 @@
 use Rattle.std.proofs.Common.{◌≡◌, ◌++◌, length}
-use Rattle.hir_lower_form.specs.Generics.{predicates_of}
+use Rattle.hir_lower_builder.specs.Generics.{predicates_of}
 use Rattle.hir_lower.proofs.collector.push_bounds.Given as goal
 
 abbrev pub invariant-loop-left : goal.invariant-loop-left

@@ -1,7 +1,7 @@
 use Rattle.std.proofs.lemmas.Grind.{common_steps}
 use Rattle.std.proofs.Common.{arith}
 use Rattle.hir_lower.specs.Formals.{behind_self}
-use Rattle.hir_one_result.specs.Formals.{coroutine_body}
+use Rattle.thm_body_result.specs.Formals.{coroutine_body}
 use Rattle.hir_lower.proofs.coroutine_functions.coroutine_form.Goals as goal
 
 pub returns-in-None : goal.returns-in-None

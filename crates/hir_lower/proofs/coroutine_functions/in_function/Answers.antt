@@ -1,6 +1,6 @@
 use Rattle.std.proofs.lemmas.Grind.{common_steps}
 use Rattle.std.proofs.Common.{arith}
-use Rattle.hir_one_result.specs.Formals.{in_function}
+use Rattle.thm_body_result.specs.Formals.{in_function}
 use Rattle.hir_lower.proofs.coroutine_functions.in_function.Goals as goal
 
 pub made_coroutine-requires-clause-body : goal.made_coroutine-requires-clause-body

@@ -1,6 +1,6 @@
 use Rattle.std.proofs.lemmas.Grind.{common_steps}
 use Rattle.std.proofs.Common.{arith}
-use Rattle.hir_lower_form.specs.Lowering.{owning}
+use Rattle.hir_lower_builder.specs.Lowering.{owning}
 use Rattle.hir_lower.proofs.coroutine_functions.owned_in_function.Goals as goal
 
 pub own-requires : goal.own-requires

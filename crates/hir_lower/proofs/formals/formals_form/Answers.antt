@@ -1,6 +1,6 @@
 use Rattle.std.proofs.lemmas.Grind.{common_steps}
 use Rattle.std.proofs.Common.{arith}
-use Rattle.hir_one_result.specs.Formals.{lower_formals}
+use Rattle.thm_body_result.specs.Formals.{lower_formals}
 use Rattle.hir_lower.proofs.formals.formals_form.Goals as goal
 
 pub returns-in_err-pats-in-Some : goal.returns-in_err-pats-in-Some

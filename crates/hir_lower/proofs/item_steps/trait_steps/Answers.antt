@@ -1,11 +1,11 @@
 use Rattle.std.proofs.lemmas.Grind.{common_steps}
 use Rattle.std.proofs.Common.{arith}
 use Rattle.hir_store.specs.declared.ids.GenericDefId.TheVariants as definition
-use Rattle.hir_env.specs.declared.place.Place.{Place}
-use Rattle.hir_lower_handlers.specs.Spots.{spot_at}
-use Rattle.hir_lower_item.specs.Answering.{answered_trait}
+use Rattle.hir_env.specs.declared.ctx.LowerCtx.{LowerCtx}
+use Rattle.hir_lower_callbacks.specs.ResolveCtxs.{rctx_at}
+use Rattle.hir_lower_item.specs.Answering.{resolved_trait}
 use Rattle.hir_lower_item.specs.Lower.{lower_trait}
-use Rattle.hir_lower.specs.Items.{as_noted}
+use Rattle.hir_lower.specs.Items.{as_tracked}
 use Rattle.hir_lower.proofs.FromNothing.{made_from, refused_from}
 use Rattle.hir_lower.proofs.item_steps.trait_steps.Goals as goal
 
@@ -13,15 +13,15 @@ pub returns-in-Ok-clause-made : goal.returns-in-Ok-clause-made
 returns-in-Ok-clause-made g c =
     let env = g.E.LowerEnv.answers c.args.db.now in
     let def = definition.TraitId c.args.id in
-    let steps = λ (p : Place). lower_trait def (answered_trait (spot_at env p) def c.args.item.value.now) in
-    made_from steps as_noted c.item_place-place.ensures c.new-state.ensures c.in-Ok.ensures.0 c.into_parts-stored.ensures.stored
-    c.into_parts-stored.ensures.notes c.early_params.ensures c.finish-store.ensures.store c.finish-store.ensures.source_map
+    let steps = λ (p : LowerCtx). lower_trait def (resolved_trait (rctx_at env p) def c.args.item.value.now) in
+    made_from steps as_tracked c.item_place-place.ensures c.new-state.ensures c.in-Ok.ensures.0 c.into_parts-stored.ensures.stored
+    c.into_parts-stored.ensures.tracks c.early_params.ensures c.finish-store.ensures.store c.finish-store.ensures.source_map
 
 pub returns-in-Err-clause-full : goal.returns-in-Err-clause-full
 returns-in-Err-clause-full g c = λ is.
     let env = g.E.LowerEnv.answers c.args.db.now in
     let def = definition.TraitId c.args.id in
-    let steps = λ (p : Place). lower_trait def (answered_trait (spot_at env p) def c.args.item.value.now) in
+    let steps = λ (p : LowerCtx). lower_trait def (resolved_trait (rctx_at env p) def c.args.item.value.now) in
     refused_from steps c.in-Err.fault c.from.result c.item_place-place.ensures c.new-state.ensures c.in-Err.ensures c.from.ensures is
 
 pub returns-in-Ok-clause-in_range : goal.returns-in-Ok-clause-in_range

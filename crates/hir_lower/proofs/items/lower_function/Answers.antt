@@ -1,31 +1,31 @@
 use Rattle.std.proofs.Common.{refl}
 use Rattle.hir_store.specs.Past.{Within}
 use Rattle.hir_store.specs.declared.ids.GenericDefId.TheVariants as definition
-use Rattle.hir_lower_form.specs.Builder.{fresh}
+use Rattle.hir_lower_builder.specs.Builder.{new_builder}
 use Rattle.hir_lower_item.specs.Kinds.{of_kinds}
 use Rattle.hir_lower_item.specs.Lower.{lower_function}
-use Rattle.hir_item_noted.specs.AskedFold.{asked_in_function}
-use Rattle.hir_item_noted.proofs.AskedLaws.{items_ask}
-use Rattle.hir_item_noted.specs.Fold.{noted_in_function}
-use Rattle.hir_item_noted.specs.Noted.{by_kind}
-use Rattle.hir_item_noted.proofs.Laws.{items_make}
-use Rattle.hir_item_result.specs.Answers.{FunctionReads}
-use Rattle.hir_item_result.specs.Inside.{HoldsOnce, held_by_function, with_held_params}
-use Rattle.hir_item_result.specs.ItemResult.{ItemResult}
-use Rattle.hir_item_result.specs.Numbers.{past_params}
-use Rattle.hir_item_result.specs.Once.{ReachesOnce, named_by_function, with_params}
-use Rattle.hir_item_result.specs.Parts.{function_parts}
-use Rattle.hir_item_result.specs.Stored.{data_of_item}
-use Rattle.hir_item_result.specs.Sizes.{ItemFitsIn}
-use Rattle.hir_item_result.proofs.Answered.{functions_read}
-use Rattle.hir_item_result.proofs.Apart.{items_apart}
-use Rattle.hir_item_result.proofs.Data.{first_items_store}
-use Rattle.hir_item_result.proofs.Fitting.{fitting_items}
-use Rattle.hir_item_result.proofs.Took.{refused_items}
-use Rattle.hir_item_result.proofs.Inside.{functions_hold_once}
-use Rattle.hir_item_result.proofs.Once.{functions_once}
-use Rattle.hir_item_result.proofs.Whole.{item_results}
-use Rattle.hir_told.specs.StoredData.{ReadsAs}
+use Rattle.thm_item_generics.specs.AskedFold.{asked_in_function}
+use Rattle.thm_item_generics.proofs.AskedTheorems.{items_ask}
+use Rattle.thm_item_generics.specs.Fold.{tracked_in_function}
+use Rattle.thm_item_generics.specs.Tracked.{by_kind}
+use Rattle.thm_item_generics.proofs.Theorems.{items_make}
+use Rattle.thm_item_result.specs.Answers.{FunctionReads}
+use Rattle.thm_item_result.specs.Inside.{HoldsOnce, held_by_function, with_held_params}
+use Rattle.thm_item_result.specs.ItemResult.{ItemResult}
+use Rattle.thm_item_result.specs.Numbers.{past_params}
+use Rattle.thm_item_result.specs.Once.{ReachesOnce, named_by_function, with_params}
+use Rattle.thm_item_result.specs.Parts.{function_parts}
+use Rattle.thm_item_result.specs.Stored.{data_of_item}
+use Rattle.thm_item_result.specs.Sizes.{ItemFitsIn}
+use Rattle.thm_item_result.proofs.ResolvedTree.{functions_read}
+use Rattle.thm_item_result.proofs.Apart.{items_apart}
+use Rattle.thm_item_result.proofs.Data.{first_items_store}
+use Rattle.thm_item_result.proofs.Fitting.{fitting_items}
+use Rattle.thm_item_result.proofs.Took.{refused_items}
+use Rattle.thm_item_result.proofs.Inside.{functions_hold_once}
+use Rattle.thm_item_result.proofs.Once.{functions_once}
+use Rattle.thm_item_result.proofs.Whole.{item_results}
+use Rattle.thm_body_result.specs.StoredData.{ReadsAs}
 use Rattle.hir_lower.specs.ItemParams.{ParamsAre}
 use Rattle.hir_lower.specs.Items.{read_function, signature}
 use Rattle.hir_lower.proofs.ItemNumbers.{params_exist}
@@ -55,12 +55,12 @@ returns-clause-params g c =
     let env = g.E.LowerEnv.answers c.args.db.now in
     let def = definition.FunctionId c.args.id in
     let x = read_function env c.args.item.file_id c.args.inside c.args.id c.args.item.value.now in
-    let n = noted_in_function def x in
+    let n = tracked_in_function def x in
     let asks = asked_in_function def x in
     from_if (lower_function def x) of_kinds 4294967295 (λ r. signature r.3 r.4 r.5 r.6) (λ r. r.2) (λ r. r.0) (λ r. r.1)
     (λ ps s m a. ParamsAre s m n (by_kind n) (asks 0).asks ps)
-    (λ b a is. params_are n (by_kind n) asks 4294967295 b (of_kinds b.notes) ((items_make def).4 x 4294967295 b a is)
-    ((items_ask def).4 x (fresh 4294967295) b a (nothing_stored 4294967295) is) refl)
+    (λ b a is. params_are n (by_kind n) asks 4294967295 b (of_kinds b.tracks) ((items_make def).4 x 4294967295 b a is)
+    ((items_ask def).4 x (new_builder 4294967295) b a (nothing_stored 4294967295) is) refl)
     c.function_steps.result c.function_steps.ensures.made
 
 pub returns-clause-reads : goal.returns-clause-reads
@@ -101,13 +101,13 @@ returns-clause-params_in_range g c =
     let env = g.E.LowerEnv.answers c.args.db.now in
     let def = definition.FunctionId c.args.id in
     let x = read_function env c.args.item.file_id c.args.inside c.args.id c.args.item.value.now in
-    let n = noted_in_function def x in
+    let n = tracked_in_function def x in
     let asks = asked_in_function def x in
     from_if (lower_function def x) of_kinds 4294967295 (λ r. signature r.3 r.4 r.5 r.6) (λ r. r.2) (λ r. r.0) (λ r. r.1)
     (λ ps s m a. Within s (past_params ps))
-    (λ b a is. params_exist n (by_kind n) asks 4294967295 b (of_kinds b.notes)
+    (λ b a is. params_exist n (by_kind n) asks 4294967295 b (of_kinds b.tracks)
     ((item_results def).4 x 4294967295 b a is).expr_sources ((items_make def).4 x 4294967295 b a is)
-    ((items_ask def).4 x (fresh 4294967295) b a (nothing_stored 4294967295) is) refl)
+    ((items_ask def).4 x (new_builder 4294967295) b a (nothing_stored 4294967295) is) refl)
     c.function_steps.result c.function_steps.ensures.made
 
 pub returns-clause-reached_once : goal.returns-clause-reached_once

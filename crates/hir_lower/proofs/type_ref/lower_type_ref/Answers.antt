@@ -1,8 +1,8 @@
 use Rattle.std.proofs.lemmas.Grind.{common_steps}
 use Rattle.std.proofs.Common.{arith}
 use Rattle.std.specs.Prelude.{option_copied}
-use Rattle.hir_lower.specs.Roots.{type_spot}
-use Rattle.hir_lower.proofs.MadeNames.{type_once_if}
+use Rattle.hir_lower.specs.Roots.{type_rctx}
+use Rattle.hir_lower.proofs.GeneratedNames.{type_once_if}
 use Rattle.hir_lower.proofs.TypeMeanings.{type_expanded_if, type_fits_if, type_result_if, type_stored_if, type_too_large}
 use Rattle.hir_lower.proofs.type_ref.lower_type_ref.Goals as goal
 
@@ -23,7 +23,7 @@ returns-clause-too_large g c = λ is. type_too_large _ _ 4294967295 (c.type_step
 
 pub returns-clause-made_once : goal.returns-clause-made_once
 returns-clause-made_once g c =
-    let at = type_spot (g.E.LowerEnv.answers c.args.db.now) c.args.type_ref.file_id c.args.inside in
+    let at = type_rctx (g.E.LowerEnv.answers c.args.db.now) c.args.type_ref.file_id c.args.inside in
     type_once_if at (option_copied c.args.type_ref.value) 4294967295 (λ r. r.0) (λ r. r.1) (λ r. r.2) c.type_steps.result
     c.type_steps.ensures.stores
 

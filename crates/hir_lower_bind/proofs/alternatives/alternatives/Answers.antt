@@ -1,6 +1,6 @@
 use Rattle.std.proofs.Common.{arith, rules}
 use Rattle.std.proofs.lemmas.Grind.{common_steps}
-use Rattle.hir_lower_form.specs.Pats.{or_form}
+use Rattle.hir_lower_builder.specs.Pats.{or_form}
 use Rattle.hir_lower_bind.proofs.alternatives.alternatives.Goals as goal
 
 pub returns-in_err-enter_or : goal.returns-in_err-enter_or

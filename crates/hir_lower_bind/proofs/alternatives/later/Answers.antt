@@ -2,7 +2,7 @@ use Rattle.std.proofs.Common.{arith, ◌∙◌, ◌∷◌, []}
 use Rattle.std.proofs.lemmas.Grind.{common_steps}
 use Rattle.hir_store.specs.Range.{HasPats}
 use Rattle.hir_env.specs.Whole.{pats_part}
-use Rattle.hir_lower_form.specs.Lower.{lower_later}
+use Rattle.hir_lower_builder.specs.Lower.{lower_later}
 use Rattle.hir_lower_pat.specs.Bindings.{table_of}
 use Rattle.hir_lower_pat.proofs.ElementSteps.{refused_named}
 use Rattle.hir_lower_pat.proofs.LaterPats.{later_refused}
@@ -26,7 +26,7 @@ returns g c = grind (arith, common_steps)
 pub returns-in_err-id : goal.returns-in_err-id
 returns-in_err-id g c =
     let l = c.loop-left in
-    let at = g.S.Here.spot c.args.parts.now in
+    let at = g.S.Here.rctx c.args.parts.now in
     refused_named HasPats (lower_later (pats_part at c.args.left.now) (c.args.first ∷ [])) c.args.bindings.now c.next.new.bindings
     c.args.state.now c.next.new.state _ c.from_residual-in_err-id.result
     c.from_residual-in_err-id.ensures.1

@@ -4,11 +4,11 @@ use Rattle.hir_syntax.specs.declared.pats.PatKind.TheVariants as kind
 use Rattle.hir_store.specs.Range.{HasPat}
 use Rattle.hir_store.specs.declared.pat.Pat.TheVariants as pat
 use Rattle.hir_env.specs.TypePats.{bare_pat}
-use Rattle.hir_env.specs.Whole.{answered_pat}
-use Rattle.hir_lower_form.specs.Calls.{found_of}
-use Rattle.hir_lower_form.specs.Lower.{lower_pat}
-use Rattle.hir_lower_form.specs.Lowering.{alloc_pat, go_on, pure}
-use Rattle.hir_lower_form.specs.Pats.{barred_pat_form}
+use Rattle.hir_env.specs.Whole.{resolved_pat}
+use Rattle.hir_lower_builder.specs.Calls.{found_of}
+use Rattle.hir_lower_builder.specs.Lower.{lower_pat}
+use Rattle.hir_lower_builder.specs.Lowering.{alloc_pat, go_on, pure}
+use Rattle.hir_lower_builder.specs.Pats.{barred_pat_form}
 use Rattle.hir_lower_pat.specs.Bare.{bare_as, bare_kind, barred, name_if, plain_name, wild}
 use Rattle.hir_lower_pat.specs.Bindings.{table_of}
 use Rattle.hir_lower_pat.specs.Calls.{pat_lent, written_call}
@@ -24,7 +24,7 @@ use Rattle.hir_lower_bind.proofs.bare.+bare.Goals as goal
 pub bare_call-bare_form-requires : goal.bare_call-bare_form-requires
 bare_call-bare_form-requires g t c κs within =
     let parts = c.args.lowerer.now.parts in
-    let at = g.P.LowerParts.spot parts in
+    let at = g.P.LowerParts.rctx parts in
     let call = c.args.call.now in
     let found = found_of c.in_ok-entered.entered in
     let is = sym c.pat_of.ensures ∙ ap pat_lent c.in-Some.is in
@@ -33,7 +33,7 @@ bare_call-bare_form-requires g t c κs within =
     c.args.state.now c.enter.new.state found c.in_ok-entered.ensures.0 c.in-Some.place c.in-Some.node.now is in
     let less = less_left at call c.args.state.now c.enter.new.state found c.in_ok-entered.ensures.0
     c.in-Some.place c.in-Some.node.now is in
-    let here = ap (λ x. x.place) c.moved.ensures.spot in
+    let here = ap (λ x. x.place) c.moved.ensures.rctx in
     let left = ap (λ p. p.left) here in (
       omega (arith, less, left, c.decreases),
       (within.0, (within.1, (rw here (c.moved.ensures.can.pat c.in-Some.place c.in-Some.node.now may), grind (arith, common_steps)))),
@@ -41,7 +41,7 @@ bare_call-bare_form-requires g t c κs within =
 
 pub bare_call-returns-in_err-entered : goal.bare_call-returns-in_err-entered
 bare_call-returns-in_err-entered g t c =
-    let at = g.P.LowerParts.spot c.args.lowerer.now.parts in
+    let at = g.P.LowerParts.rctx c.args.lowerer.now.parts in
     let names = c.args.bindings.now in
     refused_named HasPat (lower_pat (bare_pat (written_call at c.args.at c.args.call.now))) names names
     c.args.state.now c.enter.new.state _ c.from_residual.result c.from_residual.ensures.1
@@ -50,7 +50,7 @@ bare_call-returns-in_err-entered g t c =
 
 pub bare_call-returns-in_err-id-in-None : goal.bare_call-returns-in_err-id-in-None
 bare_call-returns-in_err-id-in-None g t c =
-    let at = g.P.LowerParts.spot c.args.lowerer.now.parts in
+    let at = g.P.LowerParts.rctx c.args.lowerer.now.parts in
     let names = c.args.bindings.now in
     refused_named HasPat (lower_pat (bare_pat (written_call at c.args.at c.args.call.now))) names names
     c.args.state.now c.missing_pat.new.self _ c.from_residual-in_err-id-in-None.result c.from_residual-in_err-id-in-None.ensures.1
@@ -63,10 +63,10 @@ bare_call-returns-in_err-id-in-None g t c =
 
 pub bare_call-returns-in_err-id-in-Some : goal.bare_call-returns-in_err-id-in-Some
 bare_call-returns-in_err-id-in-Some g t c =
-    let at = g.P.LowerParts.spot c.args.lowerer.now.parts in
+    let at = g.P.LowerParts.rctx c.args.lowerer.now.parts in
     let names = c.args.bindings.now in
     let node = c.in-Some.node.now in
-    let same = ap (λ a. lower_pat (bare_pat (answered_pat a node)) (table_of names) c.enter.new.state) c.moved.ensures.spot in
+    let same = ap (λ a. lower_pat (bare_pat (resolved_pat a node)) (table_of names) c.enter.new.state) c.moved.ensures.rctx in
     refused_named HasPat (lower_pat (bare_pat (written_call at c.args.at c.args.call.now))) names c.bare_form.new.bindings
     c.args.state.now c.bare_form.new.state _ c.from_residual-in_err-id-in-Some.result c.from_residual-in_err-id-in-Some.ensures.1
     (λ other. let h = c.in_err-id-in-Some.ensures other in (
@@ -84,7 +84,7 @@ bare_call-returns g t c = grind (arith, common_steps, bare_on)
 
 pub bare_kind_form-returns-then-is_alone : goal.bare_kind_form-returns-then-is_alone
 bare_kind_form-returns-then-is_alone g t c =
-    let at = g.P.LowerParts.spot c.args.lowerer.now.parts in
+    let at = g.P.LowerParts.rctx c.args.lowerer.now.parts in
     let node = c.args.node.now in
     let layer = opened (kind.rolls-IdentPat _ _ _ _ ∙ sym c.in-IdentPat.is) in
     let is = ap bare_kind layer ∙ ap (λ b. name_if b c.in-IdentPat.name) (sym c.if-is_alone.ensures) in
@@ -93,7 +93,7 @@ bare_kind_form-returns-then-is_alone g t c =
 
 pub bare_kind_form-returns-else-is_alone : goal.bare_kind_form-returns-else-is_alone
 bare_kind_form-returns-else-is_alone g t c =
-    let at = g.P.LowerParts.spot c.args.lowerer.now.parts in
+    let at = g.P.LowerParts.rctx c.args.lowerer.now.parts in
     let node = c.args.node.now in
     let layer = opened (kind.rolls-IdentPat _ _ _ _ ∙ sym c.in-IdentPat.is) in
     let is = ap bare_kind layer ∙ ap (λ b. name_if b c.in-IdentPat.name) (sym c.if-is_alone.ensures) in
@@ -104,7 +104,7 @@ bare_kind_form-returns-else-is_alone g t c =
 
 pub bare_form-returns : goal.bare_form-returns
 bare_form-returns g t c =
-    let at = g.P.LowerParts.spot c.args.lowerer.now.parts in
+    let at = g.P.LowerParts.rctx c.args.lowerer.now.parts in
     let node = c.args.node.now in
     subst (λ q. LowersPat q c.args.bindings.now c.args.state.now c.bare_kind_form.result c.bare_kind_form.new.bindings
     c.bare_kind_form.new.state)
@@ -112,7 +112,7 @@ bare_form-returns g t c =
 
 pub bare_kind_form-returns-in-WildcardPat : goal.bare_kind_form-returns-in-WildcardPat
 bare_kind_form-returns-in-WildcardPat g t c =
-    let at = g.P.LowerParts.spot c.args.lowerer.now.parts in
+    let at = g.P.LowerParts.rctx c.args.lowerer.now.parts in
     let node = c.args.node.now in
     let names = c.args.bindings.now in
     let steps = alloc_pat pat.Wild (Some c.pointer-at.result) in

@@ -1,6 +1,6 @@
 use Rattle.std.proofs.Common.{arith}
 use Rattle.std.proofs.lemmas.Grind.{common_steps}
-use Rattle.hir_lower_form.specs.Pats.{bind_form}
+use Rattle.hir_lower_builder.specs.Pats.{bind_form}
 use Rattle.hir_lower_bind.proofs.bare.plain_name.Goals as goal
 
 pub returns-in_err-pat : goal.returns-in_err-pat

@@ -1,6 +1,6 @@
 use Rattle.std.proofs.Common.{arith}
 use Rattle.std.proofs.lemmas.Grind.{common_steps}
-use Rattle.hir_lower_form.specs.Pats.{bind_form}
+use Rattle.hir_lower_builder.specs.Pats.{bind_form}
 use Rattle.hir_lower_bind.proofs.names.bind_form.Goals as goal
 
 pub returns-in_err-define : goal.returns-in_err-define

@@ -1,6 +1,6 @@
 use Rattle.std.proofs.Common.{arith}
 use Rattle.std.proofs.lemmas.Grind.{common_steps}
-use Rattle.hir_lower_form.specs.Pats.{over_pat_form}
+use Rattle.hir_lower_builder.specs.Pats.{over_pat_form}
 use Rattle.hir_lower_bind.proofs.pats.deref_form.Goals as goal
 
 pub returns : goal.returns

@@ -14,7 +14,7 @@ ident_form-requires g c =
 pub returns-in-IdentPat : goal.returns-in-IdentPat
 returns-in-IdentPat g c =
     let is = opened (kind.rolls-IdentPat _ _ _ _ ∙ sym c.in-IdentPat.is) in
-    pat_as (g.S.Here.spot c.args.parts.now) c.args.node.now _ c.pointer-at.result c.args.bindings.now
+    pat_as (g.S.Here.rctx c.args.parts.now) c.args.node.now _ c.pointer-at.result c.args.bindings.now
     c.ident_form.new.bindings c.args.state.now _ c.ident_form.new.state c.pointer-at.ensures is
     (rw c.mode_of.ensures at c.ident_form.ensures)
 
@@ -26,7 +26,7 @@ tuple_struct_form-requires g c =
 pub returns-in-TupleStructPat : goal.returns-in-TupleStructPat
 returns-in-TupleStructPat g c =
     let is = opened (kind.rolls-TupleStructPat _ _ _ ∙ sym c.in-TupleStructPat.is) in
-    pat_as (g.S.Here.spot c.args.parts.now) c.args.node.now _ c.pointer-at.result c.args.bindings.now
+    pat_as (g.S.Here.rctx c.args.parts.now) c.args.node.now _ c.pointer-at.result c.args.bindings.now
     c.tuple_struct_form.new.bindings c.args.state.now _ c.tuple_struct_form.new.state c.pointer-at.ensures is c.tuple_struct_form.ensures
 
 pub tuple_form-requires : goal.tuple_form-requires
@@ -37,7 +37,7 @@ tuple_form-requires g c =
 pub returns-in-TuplePat : goal.returns-in-TuplePat
 returns-in-TuplePat g c =
     let is = opened (kind.rolls-TuplePat _ _ ∙ sym c.in-TuplePat.is) in
-    pat_as (g.S.Here.spot c.args.parts.now) c.args.node.now _ c.pointer-at.result c.args.bindings.now
+    pat_as (g.S.Here.rctx c.args.parts.now) c.args.node.now _ c.pointer-at.result c.args.bindings.now
     c.tuple_form.new.bindings c.args.state.now _ c.tuple_form.new.state c.pointer-at.ensures is c.tuple_form.ensures
 
 pub record_form-requires : goal.record_form-requires
@@ -48,7 +48,7 @@ record_form-requires g c =
 pub returns-in-RecordPat : goal.returns-in-RecordPat
 returns-in-RecordPat g c =
     let is = opened (kind.rolls-RecordPat _ _ _ ∙ sym c.in-RecordPat.is) in
-    pat_as (g.S.Here.spot c.args.parts.now) c.args.node.now _ c.pointer-at.result c.args.bindings.now
+    pat_as (g.S.Here.rctx c.args.parts.now) c.args.node.now _ c.pointer-at.result c.args.bindings.now
     c.record_form.new.bindings c.args.state.now _ c.record_form.new.state c.pointer-at.ensures is c.record_form.ensures
 
 pub or_form-requires : goal.or_form-requires
@@ -59,7 +59,7 @@ or_form-requires g c =
 pub returns-in-OrPat : goal.returns-in-OrPat
 returns-in-OrPat g c =
     let is = opened (kind.rolls-OrPat _ ∙ sym c.in-OrPat.is) in
-    pat_as (g.S.Here.spot c.args.parts.now) c.args.node.now _ c.pointer-at.result c.args.bindings.now
+    pat_as (g.S.Here.rctx c.args.parts.now) c.args.node.now _ c.pointer-at.result c.args.bindings.now
     c.or_form.new.bindings c.args.state.now _ c.or_form.new.state c.pointer-at.ensures is c.or_form.ensures
 
 pub lower-requires : goal.lower-requires
@@ -70,7 +70,7 @@ lower-requires g c =
 pub returns-in-ParenPat : goal.returns-in-ParenPat
 returns-in-ParenPat g c =
     let is = opened (kind.rolls-ParenPat _ ∙ sym c.in-ParenPat.is) in
-    pat_as (g.S.Here.spot c.args.parts.now) c.args.node.now _ c.pointer-at.result c.args.bindings.now
+    pat_as (g.S.Here.rctx c.args.parts.now) c.args.node.now _ c.pointer-at.result c.args.bindings.now
     c.lower.new.bindings c.args.state.now _ c.lower.new.state c.pointer-at.ensures is c.lower.ensures
 
 pub slice_form-requires : goal.slice_form-requires
@@ -81,7 +81,7 @@ slice_form-requires g c =
 pub returns-in-SlicePat : goal.returns-in-SlicePat
 returns-in-SlicePat g c =
     let is = opened (kind.rolls-SlicePat _ _ _ ∙ sym c.in-SlicePat.is) in
-    pat_as (g.S.Here.spot c.args.parts.now) c.args.node.now _ c.pointer-at.result c.args.bindings.now
+    pat_as (g.S.Here.rctx c.args.parts.now) c.args.node.now _ c.pointer-at.result c.args.bindings.now
     c.slice_form.new.bindings c.args.state.now _ c.slice_form.new.state c.pointer-at.ensures is c.slice_form.ensures
 
 pub ref_form-requires : goal.ref_form-requires
@@ -92,7 +92,7 @@ ref_form-requires g c =
 pub returns-in-RefPat : goal.returns-in-RefPat
 returns-in-RefPat g c =
     let is = opened (kind.rolls-RefPat _ _ ∙ sym c.in-RefPat.is) in
-    pat_as (g.S.Here.spot c.args.parts.now) c.args.node.now _ c.pointer-at.result c.args.bindings.now
+    pat_as (g.S.Here.rctx c.args.parts.now) c.args.node.now _ c.pointer-at.result c.args.bindings.now
     c.ref_form.new.bindings c.args.state.now _ c.ref_form.new.state c.pointer-at.ensures is c.ref_form.ensures
 
 pub box_form-requires : goal.box_form-requires
@@ -103,7 +103,7 @@ box_form-requires g c =
 pub returns-in-BoxPat : goal.returns-in-BoxPat
 returns-in-BoxPat g c =
     let is = opened (kind.rolls-BoxPat _ ∙ sym c.in-BoxPat.is) in
-    pat_as (g.S.Here.spot c.args.parts.now) c.args.node.now _ c.pointer-at.result c.args.bindings.now
+    pat_as (g.S.Here.rctx c.args.parts.now) c.args.node.now _ c.pointer-at.result c.args.bindings.now
     c.box_form.new.bindings c.args.state.now _ c.box_form.new.state c.pointer-at.ensures is c.box_form.ensures
 
 pub deref_form-requires : goal.deref_form-requires
@@ -114,7 +114,7 @@ deref_form-requires g c =
 pub returns-in-DerefPat : goal.returns-in-DerefPat
 returns-in-DerefPat g c =
     let is = opened (kind.rolls-DerefPat _ ∙ sym c.in-DerefPat.is) in
-    pat_as (g.S.Here.spot c.args.parts.now) c.args.node.now _ c.pointer-at.result c.args.bindings.now
+    pat_as (g.S.Here.rctx c.args.parts.now) c.args.node.now _ c.pointer-at.result c.args.bindings.now
     c.deref_form.new.bindings c.args.state.now _ c.deref_form.new.state c.pointer-at.ensures is c.deref_form.ensures
 
 pub plain_kind-requires-clause-plain : goal.plain_kind-requires-clause-plain

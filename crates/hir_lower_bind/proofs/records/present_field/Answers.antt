@@ -1,6 +1,6 @@
 use Rattle.std.proofs.Common.{arith}
 use Rattle.std.proofs.lemmas.Grind.{common_steps}
-use Rattle.hir_lower_form.specs.Pats.{pat_field_form}
+use Rattle.hir_lower_builder.specs.Pats.{pat_field_form}
 use Rattle.hir_lower_bind.proofs.records.present_field.Goals as goal
 
 pub returns : goal.returns

@@ -1,6 +1,6 @@
 use Rattle.std.proofs.Common.{arith}
 use Rattle.std.proofs.lemmas.Grind.{common_steps}
-use Rattle.hir_lower_form.specs.Pats.{literal_pat_form}
+use Rattle.hir_lower_builder.specs.Pats.{literal_pat_form}
 use Rattle.hir_lower_bind.proofs.sides.literal_form.Goals as goal
 
 pub returns-in_ok-expr-in-Some : goal.returns-in_ok-expr-in-Some

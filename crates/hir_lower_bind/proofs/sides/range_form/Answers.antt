@@ -1,6 +1,6 @@
 use Rattle.std.proofs.Common.{arith}
 use Rattle.std.proofs.lemmas.Grind.{common_steps}
-use Rattle.hir_lower_form.specs.Pats.{range_pat_form}
+use Rattle.hir_lower_builder.specs.Pats.{range_pat_form}
 use Rattle.hir_lower_bind.proofs.sides.range_form.Goals as goal
 
 pub alloc_pat-requires-in-Some : goal.alloc_pat-requires-in-Some

@@ -3,9 +3,9 @@ use Rattle.std.proofs.Common.{◌∙◌, [], arith}
 use Rattle.hir_store.specs.Range.{HasPatFields}
 use Rattle.hir_env.specs.Targets.{target_fields}
 use Rattle.hir_env.specs.Whole.{fields_part}
-use Rattle.hir_lower_form.specs.Lower.{lower_target_fields}
-use Rattle.hir_lower_pat.specs.Aims.{found_at}
-use Rattle.hir_lower_pat.proofs.AimTurns.{field_left_out, field_more, field_refused, fields_has, fields_stay, grows_on}
+use Rattle.hir_lower_builder.specs.Lower.{lower_target_fields}
+use Rattle.hir_lower_pat.specs.Assignees.{found_at}
+use Rattle.hir_lower_pat.proofs.AssigneeFuel.{field_left_out, field_more, field_refused, fields_has, fields_stay, grows_on}
 use Rattle.hir_lower_pat.proofs.KindLemmas.{first_of}
 use Rattle.hir_lower_pat.proofs.TypePats.{handed_on}
 use Rattle.hir_lower_bind.proofs.target_records.fields.Goals as goal
@@ -13,12 +13,12 @@ use Rattle.hir_lower_bind.proofs.target_records.fields.Goals as goal
 pub returns-in_err-field : goal.returns-in_err-field
 returns-in_err-field g c =
     let l = c.loop-left in
-    let spot = g.T.Here.spot c.args.parts.now in
-    handed_on HasPatFields (lower_target_fields [] (target_fields (found_at spot) (fields_part spot c.args.left.now))) c.args.state.now _
+    let rctx = g.T.Here.rctx c.args.parts.now in
+    handed_on HasPatFields (lower_target_fields [] (target_fields (found_at rctx) (fields_part rctx c.args.left.now))) c.args.state.now _
     c.from_residual.result c.field.new.state c.from_residual.ensures.1
     (λ other.
     let h = c.in_err-field.ensures other in
-    let is = field_refused spot l.left.now c.one-item.result l.state c.field.new.state l.done _ c.one-item.is
+    let is = field_refused rctx l.left.now c.one-item.result l.state c.field.new.state l.done _ c.one-item.is
     c.in-len1-up.len_at_least h.0 in
     (l.invariant.so_far ∙ is, h.1))
 
@@ -26,12 +26,12 @@ pub loop-left-preserved-in_ok-push_pat_field : goal.loop-left-preserved-in_ok-pu
 loop-left-preserved-in_ok-push_pat_field g c =
     let l = c.loop-left in
     let new = c.field.new.state in
-    let spot = g.T.Here.spot c.args.parts.now in
+    let rctx = g.T.Here.rctx c.args.parts.now in
     let first = first_of l.left.now c.one-item.result c.one-item.is c.in-len1-up.len_at_least in
     let may = rw first at l.invariant.may in
     let put = rw c.in-Some.is at c.in_ok-field.ensures in
     let pushed = c.in_ok-push_pat_field.ensures in
-    let more = field_more spot l.left.now c.one-item.result l.state new l.done c.in-Some.field c.push_pat_field.new.fields c.one-item.is
+    let more = field_more rctx l.left.now c.one-item.result l.state new l.done c.in-Some.field c.push_pat_field.new.fields c.one-item.is
     c.in-len1-up.len_at_least put.0 pushed.items in
     record {
       so_far = l.invariant.so_far ∙ more;
@@ -47,11 +47,11 @@ pub loop-left-preserved : goal.loop-left-preserved
 loop-left-preserved g c =
     let l = c.loop-left in
     let new = c.field.new.state in
-    let spot = g.T.Here.spot c.args.parts.now in
+    let rctx = g.T.Here.rctx c.args.parts.now in
     let first = first_of l.left.now c.one-item.result c.one-item.is c.in-len1-up.len_at_least in
     let may = rw first at l.invariant.may in
     let left_out = rw c.in_default-2.is at c.in_ok-field.ensures in
-    let same = field_left_out spot l.left.now c.one-item.result l.state new l.done c.one-item.is c.in-len1-up.len_at_least left_out.0 in
+    let same = field_left_out rctx l.left.now c.one-item.result l.state new l.done c.one-item.is c.in-len1-up.len_at_least left_out.0 in
     record {
       so_far = l.invariant.so_far ∙ same;
       may = may.1;

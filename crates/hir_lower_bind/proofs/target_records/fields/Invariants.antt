@@ -2,13 +2,13 @@ use Rattle.std.proofs.Common.{◌≡◌, length, []}
 use Rattle.hir_store.specs.Range.{Grows, HasPatFields}
 use Rattle.hir_env.specs.Targets as of
 use Rattle.hir_env.specs.Whole.{fields_part}
-use Rattle.hir_lower_form.specs.Lower.{lower_target_fields}
-use Rattle.hir_lower_pat.specs.Aims.{KidsOfFields, found_at}
+use Rattle.hir_lower_builder.specs.Lower.{lower_target_fields}
+use Rattle.hir_lower_pat.specs.Assignees.{KidsOfFields, found_at}
 use Rattle.hir_lower_bind.proofs.target_records.fields.Given as goal
 
 abbrev pub invariant-loop-left : goal.invariant-loop-left
 invariant-loop-left g l =
-    let at = g.T.Here.spot l.parts in
+    let at = g.T.Here.rctx l.parts in
     let read = of.target_fields (found_at at) in
     record {
       so_far : lower_target_fields [] (read (fields_part at l.fn.left)) l.fn.state

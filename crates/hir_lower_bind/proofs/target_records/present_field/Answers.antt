@@ -1,6 +1,6 @@
 use Rattle.std.proofs.Common.{arith}
 use Rattle.std.proofs.lemmas.Grind.{common_steps}
-use Rattle.hir_lower_form.specs.Targets.{target_field_form}
+use Rattle.hir_lower_builder.specs.Targets.{target_field_form}
 use Rattle.hir_lower_bind.proofs.target_records.present_field.Goals as goal
 
 pub returns : goal.returns

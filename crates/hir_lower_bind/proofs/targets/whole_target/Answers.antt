@@ -11,5 +11,5 @@ returns g c = grind (arith, common_steps)
 pub land-requires : goal.land-requires
 land-requires g c = grind (arith, common_steps)
 
-pub aim-requires : goal.aim-requires
-aim-requires g c = grind (arith, common_steps)
+pub assignee-requires : goal.assignee-requires
+assignee-requires g c = grind (arith, common_steps)

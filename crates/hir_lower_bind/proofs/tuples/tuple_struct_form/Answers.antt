@@ -1,6 +1,6 @@
 use Rattle.std.proofs.Common.{arith}
 use Rattle.std.proofs.lemmas.Grind.{common_steps}
-use Rattle.hir_lower_form.specs.Pats.{tuple_struct_form}
+use Rattle.hir_lower_builder.specs.Pats.{tuple_struct_form}
 use Rattle.hir_lower_bind.proofs.tuples.tuple_struct_form.Goals as goal
 
 pub returns-in-Some : goal.returns-in-Some

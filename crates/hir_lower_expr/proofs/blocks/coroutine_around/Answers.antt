@@ -1,7 +1,7 @@
 use Rattle.std.proofs.lemmas.Grind.{common_steps}
 use Rattle.std.proofs.Common.{arith, rules}
-use Rattle.hir_lower_form.specs.Forms.{coroutine_around_form}
-use Rattle.hir_lower_form.proofs.BlockLemmas.{settled_in_range}
+use Rattle.hir_lower_builder.specs.Forms.{coroutine_around_form}
+use Rattle.hir_lower_builder.proofs.BlockLemmas.{settled_in_range}
 use Rattle.hir_lower_expr.proofs.blocks.coroutine_around.Goals as goal
 
 pub store_block-requires-clause-statements : goal.store_block-requires-clause-statements

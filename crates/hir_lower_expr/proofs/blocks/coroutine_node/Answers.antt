@@ -1,6 +1,6 @@
 use Rattle.std.proofs.Common.{rules}
-use Rattle.hir_lower_form.specs.Forms.{coroutine_block_form}
-use Rattle.hir_lower_form.specs.Lower.{coroutine_block_form}
+use Rattle.hir_lower_builder.specs.Forms.{coroutine_block_form}
+use Rattle.hir_lower_builder.specs.Lower.{coroutine_block_form}
 use Rattle.hir_lower_expr.proofs.blocks.coroutine_node.Goals as goal
 
 pub returns : goal.returns

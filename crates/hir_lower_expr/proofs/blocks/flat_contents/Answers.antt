@@ -1,6 +1,6 @@
 use Rattle.std.proofs.lemmas.Grind.{common_steps}
 use Rattle.std.proofs.Common.{◌∙◌, ap, sym, Ok, arith}
-use Rattle.hir_lower_form.specs.Methods.{HasContents, contents_at}
+use Rattle.hir_lower_builder.specs.Methods.{HasContents, contents_at}
 use Rattle.hir_lower_expr.specs.Runs.{definitions}
 use Rattle.hir_lower_expr.specs.declared.runs.Run.{Run}
 use Rattle.hir_lower_expr.proofs.ContentLemmas.{contents_closed, contents_placed, contents_refused, last_refused}
@@ -12,7 +12,7 @@ collect_run-requires-clause-parts g c = rw c.as_slice.ensures c.requires.stmts
 
 pub returns-in_err-collect_run : goal.returns-in_err-collect_run
 returns-in_err-collect_run g c =
-    let at = g.P.LowerParts.spot c.args.lowerer.now.parts in
+    let at = g.P.LowerParts.rctx c.args.lowerer.now.parts in
     let run = rw c.as_slice.ensures at c.in_err-collect_run.ensures.steps in
     let start : Run = record { done = c.new.result; counts = c.new-2.result } in
     refused HasContents (contents_at at c.args.node.now) c.args.state.now _ c.from_residual.result c.collect_run.new.state
@@ -28,7 +28,7 @@ collect_value_opt-requires-clause-done g c = c.in_ok-collect_run.ensures.placed.
 
 pub returns-in_err-tail : goal.returns-in_err-tail
 returns-in_err-tail g c =
-    let at = g.P.LowerParts.spot c.args.lowerer.now.parts in
+    let at = g.P.LowerParts.rctx c.args.lowerer.now.parts in
     let ran = rw c.as_slice.ensures at c.in_ok-collect_run.ensures.steps in
     let start : Run = record { done = c.new.result; counts = c.new-2.result } in
     refused HasContents (contents_at at c.args.node.now) c.args.state.now _ c.from_residual-in_err-tail.result
@@ -38,7 +38,7 @@ returns-in_err-tail g c =
 
 pub returns : goal.returns
 returns g c =
-    let at = g.P.LowerParts.spot c.args.lowerer.now.parts in
+    let at = g.P.LowerParts.rctx c.args.lowerer.now.parts in
     let ran = rw c.as_slice.ensures at c.in_ok-collect_run.ensures.steps in
     let start : Run = record { done = c.new.result; counts = c.new-2.result } in
     let run = c.collect_value_opt.new.run in

@@ -1,6 +1,6 @@
 use Rattle.std.proofs.Common.{rules}
-use Rattle.hir_lower_form.proofs.BlockLemmas.{settled_in_range}
-use Rattle.hir_lower_form.specs.Lower.{block_form}
+use Rattle.hir_lower_builder.proofs.BlockLemmas.{settled_in_range}
+use Rattle.hir_lower_builder.specs.Lower.{block_form}
 use Rattle.hir_lower_expr.proofs.blocks.plain_node.Goals as goal
 
 pub store_block-requires-clause-statements : goal.store_block-requires-clause-statements

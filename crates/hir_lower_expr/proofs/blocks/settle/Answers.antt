@@ -1,6 +1,6 @@
 use Rattle.std.proofs.lemmas.Grind.{common_steps}
 use Rattle.std.proofs.Common.{sym, arith}
-use Rattle.hir_lower_form.proofs.BlockLemmas.{settled_pop, settled_none}
+use Rattle.hir_lower_builder.proofs.BlockLemmas.{settled_pop, settled_none}
 use Rattle.hir_lower_expr.proofs.blocks.settle.Goals as goal
 
 pub returns-in-Some-value_at_end : goal.returns-in-Some-value_at_end

@@ -1,7 +1,7 @@
 use Rattle.std.proofs.Common.{arith}
 use Rattle.std.proofs.lemmas.Grind.{common_steps}
-use Rattle.hir_lower_form.specs.Made.{try_block_form}
-use Rattle.hir_lower_form.proofs.BlockLemmas.{settled_in_range}
+use Rattle.hir_lower_builder.specs.Made.{try_block_form}
+use Rattle.hir_lower_builder.proofs.BlockLemmas.{settled_in_range}
 use Rattle.hir_lower_expr.proofs.blocks.try_node.Goals as goal
 
 pub wrapped-requires : goal.wrapped-requires

@@ -1,7 +1,7 @@
 use Rattle.std.proofs.Common.{arith, rules}
 use Rattle.std.proofs.lemmas.Grind.{common_steps}
-use Rattle.hir_lower_form.specs.Forms.{method_call_form}
-use Rattle.hir_lower_form.specs.Lower.{method_call_form}
+use Rattle.hir_lower_builder.specs.Forms.{method_call_form}
+use Rattle.hir_lower_builder.specs.Lower.{method_call_form}
 use Rattle.hir_lower_expr.proofs.calls.method_call_form.Goals as goal
 
 pub returns : goal.returns

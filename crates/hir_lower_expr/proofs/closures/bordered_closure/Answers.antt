@@ -1,7 +1,7 @@
 use Rattle.std.proofs.Common.{arith, rules}
 use Rattle.std.proofs.lemmas.Grind.{common_steps}
-use Rattle.hir_lower_form.specs.Forms.{closure_form}
-use Rattle.hir_lower_form.specs.Lower.{closure_form}
+use Rattle.hir_lower_builder.specs.Forms.{closure_form}
+use Rattle.hir_lower_builder.specs.Lower.{closure_form}
 use Rattle.hir_lower_expr.proofs.closures.bordered_closure.Goals as goal
 
 pub returns : goal.returns

@@ -1,5 +1,5 @@
 use Rattle.std.proofs.Common.{rules}
-use Rattle.hir_lower_form.specs.Lower.{param_form}
+use Rattle.hir_lower_builder.specs.Lower.{param_form}
 use Rattle.hir_lower_expr.proofs.closures.kept_param.Goals as goal
 
 pub returns : goal.returns

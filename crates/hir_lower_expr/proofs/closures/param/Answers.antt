@@ -5,7 +5,7 @@ use Rattle.hir_lower_expr.proofs.closures.param.Goals as goal
 
 pub returns : goal.returns
 returns g c =
-    let is = param_is_level (g.P.LowerParts.spot c.args.lowerer.now.parts) c.args.node.now in
+    let is = param_is_level (g.P.LowerParts.rctx c.args.lowerer.now.parts) c.args.node.now in
     rw (ap (λ r. r.own) is) c.param_form.ensures
 
 pub param_form-requires-clause-part : goal.param_form-requires-clause-part

@@ -1,5 +1,5 @@
 use Rattle.std.proofs.Common.{rules}
-use Rattle.hir_lower_form.specs.Lower.{constant_form}
+use Rattle.hir_lower_builder.specs.Lower.{constant_form}
 use Rattle.hir_lower_expr.proofs.consts.inner_constant.Goals as goal
 
 pub returns : goal.returns

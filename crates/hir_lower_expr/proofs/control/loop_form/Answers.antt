@@ -1,7 +1,7 @@
 use Rattle.std.proofs.Common.{arith, rules}
 use Rattle.std.proofs.lemmas.Grind.{common_steps}
-use Rattle.hir_lower_form.specs.Forms.{loop_form}
-use Rattle.hir_lower_form.specs.Lower.{loop_form}
+use Rattle.hir_lower_builder.specs.Forms.{loop_form}
+use Rattle.hir_lower_builder.specs.Lower.{loop_form}
 use Rattle.hir_lower_expr.proofs.control.loop_form.Goals as goal
 
 pub returns-in_ok-body-in-Some : goal.returns-in_ok-body-in-Some

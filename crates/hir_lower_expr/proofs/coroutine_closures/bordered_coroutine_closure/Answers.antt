@@ -1,6 +1,6 @@
 use Rattle.std.proofs.Common.{arith}
 use Rattle.std.proofs.lemmas.Grind.{common_steps}
-use Rattle.hir_lower_form.specs.Preludes.{coroutine_closure_form}
+use Rattle.hir_lower_builder.specs.Preludes.{coroutine_closure_form}
 use Rattle.hir_lower_expr.proofs.coroutine_closures.bordered_coroutine_closure.Goals as goal
 
 pub store_coroutine_closure-requires : goal.store_coroutine_closure-requires

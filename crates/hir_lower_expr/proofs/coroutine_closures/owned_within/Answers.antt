@@ -1,6 +1,6 @@
 use Rattle.std.proofs.Common.{arith}
 use Rattle.std.proofs.lemmas.Grind.{common_steps}
-use Rattle.hir_lower_form.specs.Lowering.{owning}
+use Rattle.hir_lower_builder.specs.Lowering.{owning}
 use Rattle.hir_lower_expr.proofs.coroutine_closures.owned_within.Goals as goal
 
 pub returns : goal.returns

@@ -1,6 +1,6 @@
 use Rattle.std.proofs.Common.{arith}
 use Rattle.std.proofs.lemmas.Grind.{common_steps}
-use Rattle.hir_lower_form.specs.Preludes.{within_form}
+use Rattle.hir_lower_builder.specs.Preludes.{within_form}
 use Rattle.hir_lower_expr.proofs.coroutine_closures.within.Goals as goal
 
 pub returns-in_err-handed : goal.returns-in_err-handed

@@ -1,7 +1,7 @@
 use Rattle.std.proofs.Common.{arith, rules}
 use Rattle.std.proofs.lemmas.Grind.{common_steps}
-use Rattle.hir_lower_form.specs.Forms.{coroutine_form}
-use Rattle.hir_lower_form.specs.Lower.{coroutine_form}
+use Rattle.hir_lower_builder.specs.Forms.{coroutine_form}
+use Rattle.hir_lower_builder.specs.Lower.{coroutine_form}
 use Rattle.hir_lower_expr.proofs.coroutines.bordered_coroutine.Goals as goal
 
 pub returns : goal.returns

@@ -1,7 +1,7 @@
 use Rattle.std.proofs.Common.{◌≡◌, ap, subst, sym, None, Ok, Err}
 use Rattle.hir_store.specs.declared.name.Name.TheVariants as name
 use Rattle.hir_env.specs.Answering.{rules_named}
-use Rattle.hir_lower_form.specs.Lowering.{SomeEnd}
+use Rattle.hir_lower_builder.specs.Lowering.{SomeEnd}
 use Rattle.hir_lower_expr.specs.Runs.{StmtsBehind, lower_run}
 use Rattle.hir_lower_expr.proofs.RunLemmas.{stmts_refused}
 use Rattle.hir_lower_expr.proofs.StatementLemmas.{define_alone, rules_defined, rules_undefined, stmts_unplaced}
@@ -9,7 +9,7 @@ use Rattle.hir_lower_expr.proofs.definitions.rules_stmt.Goals as goal
 
 pub returns-in_default-clause-steps : goal.returns-in_default-clause-steps
 returns-in_default-clause-steps g c =
-    let at = g.P.LowerParts.spot c.args.lowerer.now.parts in
+    let at = g.P.LowerParts.rctx c.args.lowerer.now.parts in
     let run = c.args.run.now in
     subst (λ n. StmtsBehind (rules_named at.answers at.place n) run c.args.state.now c.define.result
     (record run { done = c.define.new.done }) c.define.new.state) (sym c.in_default.is)
@@ -17,7 +17,7 @@ returns-in_default-clause-steps g c =
 
 pub returns-in_err-define-clause-steps : goal.returns-in_err-define-clause-steps
 returns-in_err-define-clause-steps g c =
-    let at = g.P.LowerParts.spot c.args.lowerer.now.parts in
+    let at = g.P.LowerParts.rctx c.args.lowerer.now.parts in
     let run = c.args.run.now in
     let e = c.in_err-define.field-0.0 in
     stmts_refused (rules_named at.answers at.place c.args.name.now) run (record run { done = c.define-2.new.done }) c.args.state.now e
@@ -36,7 +36,7 @@ returns-in_err-define-clause-placed g c =
 
 pub returns-clause-steps : goal.returns-clause-steps
 returns-clause-steps g c =
-    let at = g.P.LowerParts.spot c.args.lowerer.now.parts in
+    let at = g.P.LowerParts.rctx c.args.lowerer.now.parts in
     let run = c.args.run.now in
     let now = record run { done = c.define-2.new.done; counts = c.count_up.new.counts } in
     subst (λ n. StmtsBehind (rules_named at.answers at.place n) run c.args.state.now (Ok tt) now c.define-2.new.state) (sym c.in-Some.is)

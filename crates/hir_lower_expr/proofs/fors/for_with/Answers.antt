@@ -1,15 +1,15 @@
 use Rattle.std.proofs.Common.{arith}
 use Rattle.std.proofs.lemmas.Grind.{common_steps}
-use Rattle.hir_lower_form.specs.Made.{for_form}
+use Rattle.hir_lower_builder.specs.Made.{for_form}
 use Rattle.hir_lower_expr.proofs.fors.for_with.Goals as goal
 
 pub returns-in_err-iterator : goal.returns-in_err-iterator
 unfolding for_form
 returns-in_err-iterator g c = grind (arith, common_steps)
 
-pub returns-in_err-turns : goal.returns-in_err-turns
+pub returns-in_err-iterations : goal.returns-in_err-iterations
 unfolding for_form
-returns-in_err-turns g c = grind (arith, common_steps)
+returns-in_err-iterations g c = grind (arith, common_steps)
 
 pub returns-in_err-expr : goal.returns-in_err-expr
 unfolding for_form

@@ -1,6 +1,6 @@
 use Rattle.std.proofs.Common.{arith}
 use Rattle.std.proofs.lemmas.Grind.{common_steps}
-use Rattle.hir_lower_form.specs.Made.{gives_arm_form}
+use Rattle.hir_lower_builder.specs.Made.{gives_arm_form}
 use Rattle.hir_lower_expr.proofs.fors.gives_arm.Goals as goal
 
 pub returns : goal.returns

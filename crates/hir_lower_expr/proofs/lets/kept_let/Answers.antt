@@ -1,6 +1,6 @@
 use Rattle.std.proofs.Common.{arith}
 use Rattle.std.proofs.lemmas.Grind.{common_steps}
-use Rattle.hir_lower_form.specs.Forms.{let_stmt_form}
+use Rattle.hir_lower_builder.specs.Forms.{let_stmt_form}
 use Rattle.hir_lower_expr.proofs.lets.kept_let.Goals as goal
 
 pub returns-in_err-else_branch : goal.returns-in_err-else_branch

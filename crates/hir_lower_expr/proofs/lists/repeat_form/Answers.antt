@@ -1,6 +1,6 @@
 use Rattle.std.proofs.Common.{arith}
 use Rattle.std.proofs.lemmas.Grind.{common_steps}
-use Rattle.hir_lower_form.specs.Forms.{repeat_form}
+use Rattle.hir_lower_builder.specs.Forms.{repeat_form}
 use Rattle.hir_lower_expr.proofs.lists.repeat_form.Goals as goal
 
 pub returns : goal.returns

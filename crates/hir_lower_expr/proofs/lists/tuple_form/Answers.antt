@@ -1,7 +1,7 @@
 use Rattle.std.proofs.Common.{arith, rules}
 use Rattle.std.proofs.lemmas.Grind.{common_steps}
-use Rattle.hir_lower_form.specs.Forms.{list_form}
-use Rattle.hir_lower_form.specs.Lower.{list_form}
+use Rattle.hir_lower_builder.specs.Forms.{list_form}
+use Rattle.hir_lower_builder.specs.Lower.{list_form}
 use Rattle.hir_lower_expr.proofs.lists.tuple_form.Goals as goal
 
 pub returns : goal.returns

@@ -1,8 +1,8 @@
 use Rattle.std.proofs.Common.{arith, rules}
 use Rattle.std.proofs.lemmas.Grind.{common_steps}
-use Rattle.hir_lower_form.specs.Forms.{operands_form}
-use Rattle.hir_lower_form.proofs.Binaries.{binary_is}
-use Rattle.hir_lower_form.specs.Lower.{operands_form}
+use Rattle.hir_lower_builder.specs.Forms.{operands_form}
+use Rattle.hir_lower_builder.proofs.Binaries.{binary_is}
+use Rattle.hir_lower_builder.specs.Lower.{operands_form}
 use Rattle.hir_lower_expr.proofs.operators.binary_form.Goals as goal
 
 pub returns : goal.returns

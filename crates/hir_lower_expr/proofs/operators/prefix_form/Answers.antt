@@ -1,7 +1,7 @@
 use Rattle.std.proofs.Common.{arith, rules}
 use Rattle.std.proofs.lemmas.Grind.{common_steps}
-use Rattle.hir_lower_form.specs.Forms.{operand_form}
-use Rattle.hir_lower_form.specs.Lower.{operand_form}
+use Rattle.hir_lower_builder.specs.Forms.{operand_form}
+use Rattle.hir_lower_builder.specs.Lower.{operand_form}
 use Rattle.hir_lower_expr.proofs.operators.prefix_form.Goals as goal
 
 pub returns-in-None : goal.returns-in-None

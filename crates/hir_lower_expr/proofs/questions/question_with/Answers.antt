@@ -1,6 +1,6 @@
 use Rattle.std.proofs.Common.{arith}
 use Rattle.std.proofs.lemmas.Grind.{common_steps}
-use Rattle.hir_lower_form.specs.Made.{question_form}
+use Rattle.hir_lower_builder.specs.Made.{question_form}
 use Rattle.hir_lower_expr.proofs.questions.question_with.Goals as goal
 
 pub store_match-requires : goal.store_match-requires

@@ -1,5 +1,5 @@
 use Rattle.std.proofs.Common.{rules}
-use Rattle.hir_lower_form.specs.Ranges.{range_form}
+use Rattle.hir_lower_builder.specs.Ranges.{range_form}
 use Rattle.hir_lower_expr.proofs.ranges.range_form.Goals as goal
 
 pub returns : goal.returns

@@ -1,6 +1,6 @@
 use Rattle.std.proofs.Common.{arith}
 use Rattle.std.proofs.lemmas.Grind.{common_steps}
-use Rattle.hir_lower_form.specs.Forms.{record_contents}
+use Rattle.hir_lower_builder.specs.Forms.{record_contents}
 use Rattle.hir_lower_expr.proofs.records.record_level_contents.Goals as goal
 
 pub fields-requires : goal.fields-requires

@@ -5,12 +5,12 @@ use Rattle.hir_syntax.specs.declared.ast.ElseBranch.TheOpen.{ExprKind-F}
 use Rattle.hir_syntax.specs.declared.ast.ExprKind.{out-ExprKind}
 use Rattle.hir_store.specs.declared.hir.Statement.TheVariants as statement
 use Rattle.hir_env.specs.Calls.{nothing}
-use Rattle.hir_env.specs.Spot.{site_of}
-use Rattle.hir_env.specs.Whole.{answered, answered_value, pointer_at, stmt_level}
-use Rattle.hir_lower_form.specs.Calls.{found_of}
-use Rattle.hir_lower_form.specs.Lower.{lower_kept, push_some}
-use Rattle.hir_lower_form.specs.Nests.{KidsStmt}
-use Rattle.hir_lower_form.proofs.Runs.{run_moved}
+use Rattle.hir_env.specs.ResolveCtx.{site_of}
+use Rattle.hir_env.specs.Whole.{resolved_expr, resolved_value, pointer_at, stmt_level}
+use Rattle.hir_lower_builder.specs.Calls.{found_of}
+use Rattle.hir_lower_builder.specs.Lower.{lower_kept, push_some}
+use Rattle.hir_lower_builder.specs.Nests.{KidsStmt}
+use Rattle.hir_lower_builder.proofs.Runs.{run_moved}
 use Rattle.hir_lower_expr.specs.Calls.{pointed}
 use Rattle.hir_lower_expr.specs.Runs.{Counts, MayEnter, ValueBehind, lower_value, run_part, spliced_call, stmts_lent, value_part}
 use Rattle.hir_lower_expr.proofs.RunLemmas.{ended_behind, ended_refused, first_may, grows_on, none_left, pushed_has, rest_may}
@@ -29,7 +29,7 @@ use Rattle.hir_lower_expr.proofs.runs.+splice.Goals as goal
 
 pub collect_call-returns-in_err-entered-clause-steps : goal.collect_call-returns-in_err-entered-clause-steps
 collect_call-returns-in_err-entered-clause-steps g t c =
-    let at = g.P.LowerParts.spot c.args.lowerer.now.parts in
+    let at = g.P.LowerParts.rctx c.args.lowerer.now.parts in
     value_refused (spliced_call at c.args.at c.args.call.now) c.args.run.now _ c.args.state.now _ c.from_residual.result
     c.enter_splice.new.state c.from_residual.ensures.1
     (λ d h other. let k = c.in_err-entered.ensures other in
@@ -41,7 +41,7 @@ collect_call-returns-in_err-entered-clause-placed g t c =
 
 pub collect_call-returns-in_default-clause-steps : goal.collect_call-returns-in_default-clause-steps
 collect_call-returns-in_default-clause-steps g t c =
-    let at = g.P.LowerParts.spot c.args.lowerer.now.parts in
+    let at = g.P.LowerParts.rctx c.args.lowerer.now.parts in
     call_nothing at c.args.at c.args.call.now c.args.run.now c.args.state.now c.enter_splice.new.state
     (found_of c.in_ok-entered.entered) c.in_ok-entered.ensures.0 (sym c.stmts_of.ensures ∙ ap stmts_lent c.in_default.is)
 
@@ -52,7 +52,7 @@ collect_call-returns-in_default-clause-placed g t c =
 pub collect_call-collect_run-requires : goal.collect_call-collect_run-requires
 collect_call-collect_run-requires g t c =
     let it = c.args.lowerer.now.parts in
-    let at = g.P.LowerParts.spot it in
+    let at = g.P.LowerParts.rctx it in
     let found = found_of c.in_ok-entered.entered in
     let is = sym c.stmts_of.ensures ∙ ap stmts_lent c.in-Some.is in
     let kids = call_kids (g.P.LowerParts.can it) at c.args.call.now c.requires.part c.args.state.now c.enter_splice.new.state found
@@ -61,23 +61,23 @@ collect_call-collect_run-requires g t c =
     c.moved-inner.ensures.can c.in-Some.made.now.stmts c.in-Some.made.now.expr kids in
     let less = call_left at c.args.call.now c.args.state.now c.enter_splice.new.state found c.in_ok-entered.ensures.0 c.in-Some.place
     c.in-Some.made.now is in
-    let same = ap (λ x. x.place.left) c.moved-inner.ensures.spot in
+    let same = ap (λ x. x.place.left) c.moved-inner.ensures.rctx in
     let done = still_has c.args.state.now.stored c.enter_splice.new.state.stored c.args.run.now.done c.in_ok-entered.ensures.1
     c.requires.done in
-    let spot = c.moved-inner.ensures.spot in
-    λ κs within. (omega (arith, c.decreases, less, same), (within.0, (within.1, (rw (spot, c.as_slice.ensures) moved.stmts, done))))
+    let rctx = c.moved-inner.ensures.rctx in
+    λ κs within. (omega (arith, c.decreases, less, same), (within.0, (within.1, (rw (rctx, c.as_slice.ensures) moved.stmts, done))))
 
 pub collect_call-returns-in_err-collect_run-clause-steps : goal.collect_call-returns-in_err-collect_run-clause-steps
 collect_call-returns-in_err-collect_run-clause-steps g t c =
-    let at = g.P.LowerParts.spot c.args.lowerer.now.parts in
-    let inner = g.P.LowerParts.spot c.moved-inner.result.parts in
+    let at = g.P.LowerParts.rctx c.args.lowerer.now.parts in
+    let inner = g.P.LowerParts.rctx c.moved-inner.result.parts in
     let is = sym c.stmts_of.ensures ∙ ap stmts_lent c.in-Some.is in
     let run = rw c.as_slice.ensures at c.in_err-collect_run.ensures.steps in
     value_refused (spliced_call at c.args.at c.args.call.now) c.args.run.now _ c.args.state.now _
     c.from_residual-in_err-collect_run.result c.collect_run.new.state c.from_residual-in_err-collect_run.ensures.1
     (λ d h other. let k = run d h other in (
       run_in_call_refused at inner c.args.at c.args.call.now c.args.run.now c.args.state.now c.enter_splice.new.state
-          (found_of c.in_ok-entered.entered) c.in_ok-entered.ensures.0 c.in-Some.place c.in-Some.made.now is c.moved-inner.ensures.spot _ d
+          (found_of c.in_ok-entered.entered) c.in_ok-entered.ensures.0 c.in-Some.place c.in-Some.made.now is c.moved-inner.ensures.rctx _ d
           c.collect_run.new.state k.0,
       k.1,
     ))
@@ -90,7 +90,7 @@ collect_call-returns-in_err-collect_run-clause-placed g t c =
 pub collect_call-collect_value_opt-requires : goal.collect_call-collect_value_opt-requires
 collect_call-collect_value_opt-requires g t c =
     let it = c.args.lowerer.now.parts in
-    let at = g.P.LowerParts.spot it in
+    let at = g.P.LowerParts.rctx it in
     let found = found_of c.in_ok-entered.entered in
     let is = sym c.stmts_of.ensures ∙ ap stmts_lent c.in-Some.is in
     let kids = call_kids (g.P.LowerParts.can it) at c.args.call.now c.requires.part c.args.state.now c.enter_splice.new.state found
@@ -99,20 +99,20 @@ collect_call-collect_value_opt-requires g t c =
     c.moved-inner.ensures.can c.in-Some.made.now.stmts c.in-Some.made.now.expr kids in
     let less = call_left at c.args.call.now c.args.state.now c.enter_splice.new.state found c.in_ok-entered.ensures.0 c.in-Some.place
     c.in-Some.made.now is in
-    let same = ap (λ x. x.place.left) c.moved-inner.ensures.spot in
+    let same = ap (λ x. x.place.left) c.moved-inner.ensures.rctx in
     let done = c.in_ok-collect_run.ensures.placed.1 in
-    λ κs within. (omega (arith, c.decreases, less, same), (within.0, (within.1, (rw c.moved-inner.ensures.spot moved.tail, done))))
+    λ κs within. (omega (arith, c.decreases, less, same), (within.0, (within.1, (rw c.moved-inner.ensures.rctx moved.tail, done))))
 
 pub collect_call-returns-in_err-value-clause-steps : goal.collect_call-returns-in_err-value-clause-steps
 collect_call-returns-in_err-value-clause-steps g t c =
-    let at = g.P.LowerParts.spot c.args.lowerer.now.parts in
-    let inner = g.P.LowerParts.spot c.moved-inner.result.parts in
+    let at = g.P.LowerParts.rctx c.args.lowerer.now.parts in
+    let inner = g.P.LowerParts.rctx c.moved-inner.result.parts in
     let is = sym c.stmts_of.ensures ∙ ap stmts_lent c.in-Some.is in
     let ran = rw c.as_slice.ensures at c.in_ok-collect_run.ensures.steps in
     value_refused (spliced_call at c.args.at c.args.call.now) c.args.run.now _ c.args.state.now _
     c.from_residual-in_err-value.result c.collect_value_opt.new.state c.from_residual-in_err-value.ensures.1
     (λ d h other. value_in_call_refused at inner c.args.at c.args.call.now c.args.run.now c.args.state.now c.enter_splice.new.state
-    (found_of c.in_ok-entered.entered) c.in_ok-entered.ensures.0 c.in-Some.place c.in-Some.made.now is c.moved-inner.ensures.spot
+    (found_of c.in_ok-entered.entered) c.in_ok-entered.ensures.0 c.in-Some.place c.in-Some.made.now is c.moved-inner.ensures.rctx
     c.collect_run.new.run c.collect_run.new.state ran _ c.collect_value_opt.new.run d c.collect_value_opt.new.state h
     c.in_err-value.ensures.steps other)
 
@@ -126,12 +126,12 @@ collect_call-pointed-requires g t c = c.in_ok-value.ensures.placed.1.1
 
 pub collect_call-returns-clause-steps : goal.collect_call-returns-clause-steps
 collect_call-returns-clause-steps g t c =
-    let at = g.P.LowerParts.spot c.args.lowerer.now.parts in
-    let inner = g.P.LowerParts.spot c.moved-inner.result.parts in
+    let at = g.P.LowerParts.rctx c.args.lowerer.now.parts in
+    let inner = g.P.LowerParts.rctx c.moved-inner.result.parts in
     let is = sym c.stmts_of.ensures ∙ ap stmts_lent c.in-Some.is in
     let ran = rw c.as_slice.ensures at c.in_ok-collect_run.ensures.steps in
     call_behind at inner c.args.at c.args.call.now c.args.run.now c.args.state.now c.enter_splice.new.state
-    (found_of c.in_ok-entered.entered) c.in_ok-entered.ensures.0 c.in-Some.place c.in-Some.made.now is c.moved-inner.ensures.spot
+    (found_of c.in_ok-entered.entered) c.in_ok-entered.ensures.0 c.in-Some.place c.in-Some.made.now is c.moved-inner.ensures.rctx
     c.collect_run.new.run c.collect_run.new.state ran c.collect_value_opt.new.run c.collect_value_opt.new.state c.pointed.new.state
     c.in_ok-value.value c.pointed.result c.in_ok-value.ensures.steps c.pointed.ensures
 
@@ -150,7 +150,7 @@ collect_call-returns-clause-placed g t c =
 
 pub collect_run-loop-all-init : goal.collect_run-loop-all-init
 collect_run-loop-all-init g t c = record {
-  so_far = λ d h. run_begins (g.P.LowerParts.spot c.args.lowerer.now.parts) c.args.run.now c.args.state.now c.args.all.now d h;
+  so_far = λ d h. run_begins (g.P.LowerParts.rctx c.args.lowerer.now.parts) c.args.run.now c.args.state.now c.args.all.now d h;
   may = c.requires.parts;
   placed = ((omega arith, omega arith, omega arith, omega arith, omega arith, omega arith), c.requires.done);
 }
@@ -163,7 +163,7 @@ collect_run-collect_stmt-requires g t c =
 
 pub collect_run-returns-in_err-collect_stmt-clause-steps : goal.collect_run-returns-in_err-collect_stmt-clause-steps
 collect_run-returns-in_err-collect_stmt-clause-steps g t c =
-    let at = g.P.LowerParts.spot c.args.lowerer.now.parts in
+    let at = g.P.LowerParts.rctx c.args.lowerer.now.parts in
     let l = c.loop-all in
     stmts_refused (run_part at c.args.all.now) c.args.run.now c.collect_stmt.new.run c.args.state.now _ c.from_residual.result
     c.collect_stmt.new.state c.from_residual.ensures.1
@@ -177,7 +177,7 @@ collect_run-returns-in_err-collect_stmt-clause-placed g t c =
 
 pub collect_run-loop-all-preserved : goal.collect_run-loop-all-preserved
 collect_run-loop-all-preserved g t c =
-    let at = g.P.LowerParts.spot c.args.lowerer.now.parts in
+    let at = g.P.LowerParts.rctx c.args.lowerer.now.parts in
     let l = c.loop-all in
     let h = c.in_ok-collect_stmt.ensures in record {
       so_far = λ d k. run_goes_on at c.args.run.now l.run c.collect_stmt.new.run c.args.state.now l.state c.collect_stmt.new.state
@@ -192,7 +192,7 @@ collect_run-loop-all-preserved g t c =
 pub collect_run-returns-clause-steps : goal.collect_run-returns-clause-steps
 collect_run-returns-clause-steps g t c =
     let l = c.loop-all in
-    λ d h. run_ends (g.P.LowerParts.spot c.args.lowerer.now.parts) c.args.run.now l.run c.args.state.now l.state c.args.all.now l.all.now d
+    λ d h. run_ends (g.P.LowerParts.rctx c.args.lowerer.now.parts) c.args.run.now l.run c.args.state.now l.state c.args.all.now l.all.now d
     (none_left l.all.now c.in_default.len_below) (l.invariant.so_far d h)
 
 pub collect_run-returns-clause-placed : goal.collect_run-returns-clause-placed
@@ -202,7 +202,7 @@ collect_run-returns-clause-placed g t c = c.loop-all.invariant.placed
 
 pub collect_stmt-returns-in_err-made-in-LetStmt-clause-steps : goal.collect_stmt-returns-in_err-made-in-LetStmt-clause-steps
 collect_stmt-returns-in_err-made-in-LetStmt-clause-steps g t c =
-    let at = g.P.LowerParts.spot c.args.lowerer.now.parts in
+    let at = g.P.LowerParts.rctx c.args.lowerer.now.parts in
     let made = rw c.pointer-at.ensures at c.in_err-made-in-LetStmt.ensures in
     stmts_refused (λ d. stmt_level at d c.args.node.now) c.args.run.now c.args.run.now c.args.state.now _ c.from_residual.result
     c.let_stmt.new.state c.from_residual.ensures.1
@@ -219,7 +219,7 @@ collect_stmt-returns-in_err-made-in-LetStmt-clause-placed g t c =
 pub collect_stmt-returns-in_ok-push_kept_statement-in-LetStmt-clause-steps :
     goal.collect_stmt-returns-in_ok-push_kept_statement-in-LetStmt-clause-steps
 collect_stmt-returns-in_ok-push_kept_statement-in-LetStmt-clause-steps g t c =
-    let at = g.P.LowerParts.spot c.args.lowerer.now.parts in
+    let at = g.P.LowerParts.rctx c.args.lowerer.now.parts in
     let made = rw c.pointer-at.ensures at c.in_ok-made-in-LetStmt.ensures in
     let_behind at c.args.node.now c.in-LetStmt.pat c.in-LetStmt.ty c.in-LetStmt.init c.in-LetStmt.else_ c.in-LetStmt.is
     c.args.run.now c.args.state.now c.let_stmt.new.state _ c.push_kept_statement.new.statements made.0
@@ -238,13 +238,13 @@ collect_stmt-returns-in_ok-push_kept_statement-in-LetStmt-clause-placed g t c =
 pub collect_stmt-collect_value_opt-requires : goal.collect_stmt-collect_value_opt-requires
 collect_stmt-collect_value_opt-requires g t c =
     let it = c.args.lowerer.now.parts in
-    let may = subst (KidsStmt (g.P.LowerParts.can it) (g.P.LowerParts.spot it).place) (ends_in c.args.node.now _ _ c.in-ExprStmt.is)
+    let may = subst (KidsStmt (g.P.LowerParts.can it) (g.P.LowerParts.rctx it).place) (ends_in c.args.node.now _ _ c.in-ExprStmt.is)
     c.requires.parts in
     λ κs within. (omega (arith, c.decreases), (within.0, (within.1, (may, c.requires.done))))
 
 pub collect_stmt-returns-in_err-value-in-ExprStmt-clause-steps : goal.collect_stmt-returns-in_err-value-in-ExprStmt-clause-steps
 collect_stmt-returns-in_err-value-in-ExprStmt-clause-steps g t c =
-    let at = g.P.LowerParts.spot c.args.lowerer.now.parts in
+    let at = g.P.LowerParts.rctx c.args.lowerer.now.parts in
     stmts_refused (λ d. stmt_level at d c.args.node.now) c.args.run.now c.collect_value_opt.new.run c.args.state.now _
     c.from_residual-in_err-value-in-ExprStmt.result c.collect_value_opt.new.state c.from_residual-in_err-value-in-ExprStmt.ensures.1
     (λ d h other. let k = c.in_err-value-in-ExprStmt.ensures.steps d h other in (
@@ -261,7 +261,7 @@ collect_stmt-returns-in_err-value-in-ExprStmt-clause-placed g t c =
 pub collect_stmt-returns-in_ok-push_kept_statement-in-ExprStmt-clause-steps :
     goal.collect_stmt-returns-in_ok-push_kept_statement-in-ExprStmt-clause-steps
 collect_stmt-returns-in_ok-push_kept_statement-in-ExprStmt-clause-steps g t c =
-    let at = g.P.LowerParts.spot c.args.lowerer.now.parts in
+    let at = g.P.LowerParts.rctx c.args.lowerer.now.parts in
     let run = c.collect_value_opt.new.run in
     λ d h. let v = c.in_ok-value-in-ExprStmt.ensures.steps d h in (
       ended_behind at c.args.node.now c.in-ExprStmt.expr c.in-ExprStmt.semi c.args.run.now.done run.done
@@ -284,11 +284,11 @@ collect_stmt-returns-in_ok-push_kept_statement-in-ExprStmt-clause-placed g t c =
 pub collect_stmt-returns-in_err-is_enabled-in-MacroRules-clause-steps :
     goal.collect_stmt-returns-in_err-is_enabled-in-MacroRules-clause-steps
 collect_stmt-returns-in_err-is_enabled-in-MacroRules-clause-steps g t c =
-    let at = g.P.LowerParts.spot c.args.lowerer.now.parts in
-    let told = rw c.pointer-at.ensures at c.in_err-is_enabled-in-MacroRules.ensures in
+    let at = g.P.LowerParts.rctx c.args.lowerer.now.parts in
+    let emitted = rw c.pointer-at.ensures at c.in_err-is_enabled-in-MacroRules.ensures in
     stmts_refused (λ d. stmt_level at d c.args.node.now) c.args.run.now c.args.run.now c.args.state.now _
     c.from_residual-in_err-is_enabled-in-MacroRules.result c.is_enabled.new.state c.from_residual-in_err-is_enabled-in-MacroRules.ensures.1
-    (λ d h other. let k = told other in (
+    (λ d h other. let k = emitted other in (
       rules_unknown at c.args.node.now c.in-MacroRules.name c.in-MacroRules.is c.args.run.now c.args.state.now c.is_enabled.new.state _
           d k.0,
       k.1,
@@ -308,10 +308,10 @@ collect_stmt-rules_stmt-requires g t c =
 pub collect_stmt-returns-in_err-rules_stmt-in-MacroRules-clause-steps :
     goal.collect_stmt-returns-in_err-rules_stmt-in-MacroRules-clause-steps
 collect_stmt-returns-in_err-rules_stmt-in-MacroRules-clause-steps g t c =
-    let at = g.P.LowerParts.spot c.args.lowerer.now.parts in
+    let at = g.P.LowerParts.rctx c.args.lowerer.now.parts in
     let node = pointer_at at c.args.node.now.id c.args.node.now.range in
-    let told = rw (c.pointer-at.ensures, c.if-branch.true) at c.in_ok-is_enabled-in-MacroRules.ensures.0 in
-    let on = is_on node (at.answers.cfg (site_of node)) c.args.state.now c.is_enabled.new.state told in
+    let emitted = rw (c.pointer-at.ensures, c.if-branch.true) at c.in_ok-is_enabled-in-MacroRules.ensures.0 in
+    let on = is_on node (at.answers.cfg (site_of node)) c.args.state.now c.is_enabled.new.state emitted in
     stmts_refused (λ d. stmt_level at d c.args.node.now) c.args.run.now c.rules_stmt.new.run c.args.state.now _
     c.from_residual-in_err-rules_stmt-in-MacroRules.result c.rules_stmt.new.state c.from_residual-in_err-rules_stmt-in-MacroRules.ensures.1
     (rules_on at c.args.node.now c.in-MacroRules.name c.in-MacroRules.is c.args.run.now c.rules_stmt.new.run c.args.state.now
@@ -326,12 +326,12 @@ collect_stmt-returns-in_err-rules_stmt-in-MacroRules-clause-placed g t c =
 
 pub collect_stmt-returns-in_err-is_enabled-in-MacroDef-clause-steps : goal.collect_stmt-returns-in_err-is_enabled-in-MacroDef-clause-steps
 collect_stmt-returns-in_err-is_enabled-in-MacroDef-clause-steps g t c =
-    let at = g.P.LowerParts.spot c.args.lowerer.now.parts in
-    let told = rw c.pointer-at.ensures at c.in_err-is_enabled-in-MacroDef.ensures in
+    let at = g.P.LowerParts.rctx c.args.lowerer.now.parts in
+    let emitted = rw c.pointer-at.ensures at c.in_err-is_enabled-in-MacroDef.ensures in
     stmts_refused (λ d. stmt_level at d c.args.node.now) c.args.run.now c.args.run.now c.args.state.now _
     c.from_residual-in_err-is_enabled-in-MacroDef.result c.is_enabled-in-MacroDef.new.state
     c.from_residual-in_err-is_enabled-in-MacroDef.ensures.1
-    (λ d h other. let k = told other in (
+    (λ d h other. let k = emitted other in (
       def_unknown at c.args.node.now c.in-MacroDef.name c.in-MacroDef.is c.args.run.now c.args.state.now
           c.is_enabled-in-MacroDef.new.state _ d k.0,
       k.1,
@@ -350,10 +350,10 @@ collect_stmt-def_stmt-requires g t c =
 
 pub collect_stmt-returns-in_err-def_stmt-in-MacroDef-clause-steps : goal.collect_stmt-returns-in_err-def_stmt-in-MacroDef-clause-steps
 collect_stmt-returns-in_err-def_stmt-in-MacroDef-clause-steps g t c =
-    let at = g.P.LowerParts.spot c.args.lowerer.now.parts in
+    let at = g.P.LowerParts.rctx c.args.lowerer.now.parts in
     let node = pointer_at at c.args.node.now.id c.args.node.now.range in
-    let told = rw (c.pointer-at.ensures, c.if-branch-2.true) at c.in_ok-is_enabled-in-MacroDef.ensures.0 in
-    let on = is_on node (at.answers.cfg (site_of node)) c.args.state.now c.is_enabled-in-MacroDef.new.state told in
+    let emitted = rw (c.pointer-at.ensures, c.if-branch-2.true) at c.in_ok-is_enabled-in-MacroDef.ensures.0 in
+    let on = is_on node (at.answers.cfg (site_of node)) c.args.state.now c.is_enabled-in-MacroDef.new.state emitted in
     stmts_refused (λ d. stmt_level at d c.args.node.now) c.args.run.now (record c.args.run.now { done = c.def_stmt.new.done })
     c.args.state.now _
     c.from_residual-in_err-def_stmt-in-MacroDef.result c.def_stmt.new.state c.from_residual-in_err-def_stmt-in-MacroDef.ensures.1
@@ -367,10 +367,10 @@ collect_stmt-returns-in_err-def_stmt-in-MacroDef-clause-placed g t c =
 
 pub collect_stmt-returns-in_ok-rules_stmt-in-MacroRules-clause-steps : goal.collect_stmt-returns-in_ok-rules_stmt-in-MacroRules-clause-steps
 collect_stmt-returns-in_ok-rules_stmt-in-MacroRules-clause-steps g t c =
-    let at = g.P.LowerParts.spot c.args.lowerer.now.parts in
+    let at = g.P.LowerParts.rctx c.args.lowerer.now.parts in
     let node = pointer_at at c.args.node.now.id c.args.node.now.range in
-    let told = rw (c.pointer-at.ensures, c.if-branch.true) at c.in_ok-is_enabled-in-MacroRules.ensures.0 in
-    let on = is_on node (at.answers.cfg (site_of node)) c.args.state.now c.is_enabled.new.state told in
+    let emitted = rw (c.pointer-at.ensures, c.if-branch.true) at c.in_ok-is_enabled-in-MacroRules.ensures.0 in
+    let on = is_on node (at.answers.cfg (site_of node)) c.args.state.now c.is_enabled.new.state emitted in
     rules_on at c.args.node.now c.in-MacroRules.name c.in-MacroRules.is c.args.run.now c.rules_stmt.new.run c.args.state.now
     c.is_enabled.new.state
     c.rules_stmt.new.state (Ok tt) on.0 on.1 c.in_ok-rules_stmt-in-MacroRules.ensures.steps
@@ -378,16 +378,16 @@ collect_stmt-returns-in_ok-rules_stmt-in-MacroRules-clause-steps g t c =
 pub collect_stmt-returns-in_ok-rules_stmt-in-MacroRules-clause-placed :
     goal.collect_stmt-returns-in_ok-rules_stmt-in-MacroRules-clause-placed
 collect_stmt-returns-in_ok-rules_stmt-in-MacroRules-clause-placed g t c =
-    let at = g.P.LowerParts.spot c.args.lowerer.now.parts in
+    let at = g.P.LowerParts.rctx c.args.lowerer.now.parts in
     let node = pointer_at at c.args.node.now.id c.args.node.now.range in
-    let told = rw (c.pointer-at.ensures, c.if-branch.true) at c.in_ok-is_enabled-in-MacroRules.ensures.0 in
-    let on = is_on node (at.answers.cfg (site_of node)) c.args.state.now c.is_enabled.new.state told in
+    let emitted = rw (c.pointer-at.ensures, c.if-branch.true) at c.in_ok-is_enabled-in-MacroRules.ensures.0 in
+    let on = is_on node (at.answers.cfg (site_of node)) c.args.state.now c.is_enabled.new.state emitted in
     stmts_same c.args.state.now c.is_enabled.new.state c.rules_stmt.new.state c.rules_stmt.new.run.done (Ok tt) on.1
     c.in_ok-rules_stmt-in-MacroRules.ensures.placed
 
 pub collect_stmt-returns-else-branch-clause-steps : goal.collect_stmt-returns-else-branch-clause-steps
 collect_stmt-returns-else-branch-clause-steps g t c =
-    let at = g.P.LowerParts.spot c.args.lowerer.now.parts in
+    let at = g.P.LowerParts.rctx c.args.lowerer.now.parts in
     rules_off at c.args.node.now c.in-MacroRules.name c.in-MacroRules.is c.args.run.now c.args.state.now c.is_enabled.new.state
     (rw (c.pointer-at.ensures, c.if-branch.false) at c.in_ok-is_enabled-in-MacroRules.ensures.0)
 
@@ -397,26 +397,26 @@ collect_stmt-returns-else-branch-clause-placed g t c =
 
 pub collect_stmt-returns-in_ok-def_stmt-in-MacroDef-clause-steps : goal.collect_stmt-returns-in_ok-def_stmt-in-MacroDef-clause-steps
 collect_stmt-returns-in_ok-def_stmt-in-MacroDef-clause-steps g t c =
-    let at = g.P.LowerParts.spot c.args.lowerer.now.parts in
+    let at = g.P.LowerParts.rctx c.args.lowerer.now.parts in
     let node = pointer_at at c.args.node.now.id c.args.node.now.range in
-    let told = rw (c.pointer-at.ensures, c.if-branch-2.true) at c.in_ok-is_enabled-in-MacroDef.ensures.0 in
-    let on = is_on node (at.answers.cfg (site_of node)) c.args.state.now c.is_enabled-in-MacroDef.new.state told in
+    let emitted = rw (c.pointer-at.ensures, c.if-branch-2.true) at c.in_ok-is_enabled-in-MacroDef.ensures.0 in
+    let on = is_on node (at.answers.cfg (site_of node)) c.args.state.now c.is_enabled-in-MacroDef.new.state emitted in
     def_on at c.args.node.now c.in-MacroDef.name c.in-MacroDef.is c.args.run.now c.def_stmt.new.done c.args.state.now
     c.is_enabled-in-MacroDef.new.state
     c.def_stmt.new.state (Ok tt) on.0 on.1 c.in_ok-def_stmt-in-MacroDef.ensures.steps
 
 pub collect_stmt-returns-in_ok-def_stmt-in-MacroDef-clause-placed : goal.collect_stmt-returns-in_ok-def_stmt-in-MacroDef-clause-placed
 collect_stmt-returns-in_ok-def_stmt-in-MacroDef-clause-placed g t c =
-    let at = g.P.LowerParts.spot c.args.lowerer.now.parts in
+    let at = g.P.LowerParts.rctx c.args.lowerer.now.parts in
     let node = pointer_at at c.args.node.now.id c.args.node.now.range in
-    let told = rw (c.pointer-at.ensures, c.if-branch-2.true) at c.in_ok-is_enabled-in-MacroDef.ensures.0 in
-    let on = is_on node (at.answers.cfg (site_of node)) c.args.state.now c.is_enabled-in-MacroDef.new.state told in
+    let emitted = rw (c.pointer-at.ensures, c.if-branch-2.true) at c.in_ok-is_enabled-in-MacroDef.ensures.0 in
+    let on = is_on node (at.answers.cfg (site_of node)) c.args.state.now c.is_enabled-in-MacroDef.new.state emitted in
     stmts_same c.args.state.now c.is_enabled-in-MacroDef.new.state c.def_stmt.new.state c.def_stmt.new.done (Ok tt) on.1
     c.in_ok-def_stmt-in-MacroDef.ensures.placed
 
 pub collect_stmt-returns-else-branch-2-clause-steps : goal.collect_stmt-returns-else-branch-2-clause-steps
 collect_stmt-returns-else-branch-2-clause-steps g t c =
-    let at = g.P.LowerParts.spot c.args.lowerer.now.parts in
+    let at = g.P.LowerParts.rctx c.args.lowerer.now.parts in
     def_off at c.args.node.now c.in-MacroDef.name c.in-MacroDef.is c.args.run.now c.args.state.now c.is_enabled-in-MacroDef.new.state
     (rw (c.pointer-at.ensures, c.if-branch-2.false) at c.in_ok-is_enabled-in-MacroDef.ensures.0)
 
@@ -427,7 +427,7 @@ collect_stmt-returns-else-branch-2-clause-placed g t c =
 
 pub collect_stmt-returns-in_ok-push_statement-in-Item-clause-steps : goal.collect_stmt-returns-in_ok-push_statement-in-Item-clause-steps
 collect_stmt-returns-in_ok-push_statement-in-Item-clause-steps g t c =
-    item_behind (g.P.LowerParts.spot c.args.lowerer.now.parts) c.args.node.now c.args.run.now c.args.state.now _ c.in-Item.is
+    item_behind (g.P.LowerParts.rctx c.args.lowerer.now.parts) c.args.node.now c.args.run.now c.args.state.now _ c.in-Item.is
     c.in_ok-push_statement-in-Item.ensures.statements
 
 pub collect_stmt-returns-in_ok-push_statement-in-Item-clause-placed : goal.collect_stmt-returns-in_ok-push_statement-in-Item-clause-placed
@@ -442,31 +442,31 @@ collect_stmt-returns-in_ok-push_statement-in-Item-clause-placed g t c = (
 pub collect_value-maybe_collect_expr-requires : goal.collect_value-maybe_collect_expr-requires
 collect_value-maybe_collect_expr-requires g t c =
     let it = c.args.lowerer.now.parts in
-    value_may (g.P.LowerParts.can it) (g.P.LowerParts.spot it).place (out-ExprKind c.args.node.now.kind) c.args.node.now
+    value_may (g.P.LowerParts.can it) (g.P.LowerParts.rctx it).place (out-ExprKind c.args.node.now.kind) c.args.node.now
     (sym c.call_of.ensures ∙ ap option_copied c.in_default.is) c.requires.part
 
 pub collect_value-returns-in_default-clause-steps : goal.collect_value-returns-in_default-clause-steps
 collect_value-returns-in_default-clause-steps g t c =
-    whole_behind (g.P.LowerParts.spot c.args.lowerer.now.parts) c.args.node.now c.args.run.now c.args.state.now
+    whole_behind (g.P.LowerParts.rctx c.args.lowerer.now.parts) c.args.node.now c.args.run.now c.args.state.now
     c.maybe_collect_expr.result c.maybe_collect_expr.new.state (sym c.call_of.ensures ∙ ap option_copied c.in_default.is)
     c.maybe_collect_expr.ensures
 
 pub collect_value-returns-in_default-clause-placed : goal.collect_value-returns-in_default-clause-placed
 collect_value-returns-in_default-clause-placed g t c =
-    let at = g.P.LowerParts.spot c.args.lowerer.now.parts in
-    value_here c.args.state.now c.maybe_collect_expr.new.state c.args.run.now.done (lower_kept (answered at c.args.node.now))
+    let at = g.P.LowerParts.rctx c.args.lowerer.now.parts in
+    value_here c.args.state.now c.maybe_collect_expr.new.state c.args.run.now.done (lower_kept (resolved_expr at c.args.node.now))
     c.maybe_collect_expr.result c.requires.done c.maybe_collect_expr.ensures
 
 pub collect_value-returns-in_err-is_enabled-clause-steps : goal.collect_value-returns-in_err-is_enabled-clause-steps
 collect_value-returns-in_err-is_enabled-clause-steps g t c =
-    let at = g.P.LowerParts.spot c.args.lowerer.now.parts in
+    let at = g.P.LowerParts.rctx c.args.lowerer.now.parts in
     let s = pointer_at at c.args.node.now.id c.args.node.now.range in
     let r = at.answers.cfg (site_of s) in
     let called = sym c.call_of.ensures ∙ ap option_copied c.in-Some.is in
-    let told = rw c.pointer-at.ensures at c.in_err-is_enabled.ensures in
-    value_refused (λ d. answered_value at d c.args.node.now) c.args.run.now c.args.run.now c.args.state.now _ c.from_residual.result
+    let emitted = rw c.pointer-at.ensures at c.in_err-is_enabled.ensures in
+    value_refused (λ d. resolved_value at d c.args.node.now) c.args.run.now c.args.run.now c.args.state.now _ c.from_residual.result
     c.is_enabled.new.state c.from_residual.ensures.1
-    (λ d h other. let k = told other in (
+    (λ d h other. let k = emitted other in (
       ap (λ read. lower_value c.args.run.now.done (read d) c.args.state.now) (value_called at c.args.node.now c.in-Some.call.now called)
           ∙ off_refused s r (call_value at s c.in-Some.call.now) d c.args.run.now.done c.args.state.now c.is_enabled.new.state _ k.0,
       k.1,
@@ -478,7 +478,7 @@ collect_value-returns-in_err-is_enabled-clause-placed g t c =
 
 pub collect_value-returns-then-not-branch-clause-steps : goal.collect_value-returns-then-not-branch-clause-steps
 collect_value-returns-then-not-branch-clause-steps g t c =
-    let at = g.P.LowerParts.spot c.args.lowerer.now.parts in
+    let at = g.P.LowerParts.rctx c.args.lowerer.now.parts in
     let s = pointer_at at c.args.node.now.id c.args.node.now.range in
     let r = at.answers.cfg (site_of s) in
     let called = sym c.call_of.ensures ∙ ap option_copied c.in-Some.is in
@@ -494,12 +494,12 @@ collect_value-returns-then-not-branch-clause-placed g t c =
 pub collect_value-collect_call-requires : goal.collect_value-collect_call-requires
 collect_value-collect_call-requires g t c =
     let it = c.args.lowerer.now.parts in
-    let at = g.P.LowerParts.spot c.args.lowerer.now.parts in
+    let at = g.P.LowerParts.rctx c.args.lowerer.now.parts in
     let s = pointer_at at c.args.node.now.id c.args.node.now.range in
     let r = at.answers.cfg (site_of s) in
     let called = sym c.call_of.ensures ∙ ap option_copied c.in-Some.is in
-    let told = rw (c.pointer-at.ensures, c.if-not-branch.false) at c.in_ok-is_enabled.ensures.0 in
-    let on = is_on s r c.args.state.now c.is_enabled.new.state told in
+    let emitted = rw (c.pointer-at.ensures, c.if-not-branch.false) at c.in_ok-is_enabled.ensures.0 in
+    let on = is_on s r c.args.state.now c.is_enabled.new.state emitted in
     let node = out-ExprKind c.args.node.now.kind in
     let may = splice_may (g.P.LowerParts.can it) at.place node c.args.node.now c.in-Some.call.now called c.requires.part in
     let is = called_kind node c.in-Some.call.now called ∙ ap (λ o. ExprKind-F.MacroExpr o) c.in-Some-call.is in
@@ -511,12 +511,12 @@ collect_value-collect_call-requires g t c =
 
 pub collect_value-returns-in-None-clause-steps : goal.collect_value-returns-in-None-clause-steps
 collect_value-returns-in-None-clause-steps g t c =
-    let at = g.P.LowerParts.spot c.args.lowerer.now.parts in
+    let at = g.P.LowerParts.rctx c.args.lowerer.now.parts in
     let s = pointer_at at c.args.node.now.id c.args.node.now.range in
     let r = at.answers.cfg (site_of s) in
     let called = sym c.call_of.ensures ∙ ap option_copied c.in-Some.is in
-    let told = rw (c.pointer-at.ensures, c.if-not-branch.false) at c.in_ok-is_enabled.ensures.0 in
-    let on = is_on s r c.args.state.now c.is_enabled.new.state told in
+    let emitted = rw (c.pointer-at.ensures, c.if-not-branch.false) at c.in_ok-is_enabled.ensures.0 in
+    let on = is_on s r c.args.state.now c.is_enabled.new.state emitted in
     let run = c.args.run.now in
     let here = subst (λ b. ValueBehind nothing run c.args.state.now (Ok None) run b) on.1 (nothing_behind run c.args.state.now) in
     let call = subst (λ o. ValueBehind (call_value at s o) run c.args.state.now (Ok None) run c.is_enabled.new.state) (sym c.in-None.is)
@@ -531,12 +531,12 @@ collect_value-returns-in-None-clause-placed g t c =
 
 pub collect_value-returns-in-Some-call-clause-steps : goal.collect_value-returns-in-Some-call-clause-steps
 collect_value-returns-in-Some-call-clause-steps g t c =
-    let at = g.P.LowerParts.spot c.args.lowerer.now.parts in
+    let at = g.P.LowerParts.rctx c.args.lowerer.now.parts in
     let s = pointer_at at c.args.node.now.id c.args.node.now.range in
     let r = at.answers.cfg (site_of s) in
     let called = sym c.call_of.ensures ∙ ap option_copied c.in-Some.is in
-    let told = rw (c.pointer-at.ensures, c.if-not-branch.false) at c.in_ok-is_enabled.ensures.0 in
-    let on = is_on s r c.args.state.now c.is_enabled.new.state told in
+    let emitted = rw (c.pointer-at.ensures, c.if-not-branch.false) at c.in_ok-is_enabled.ensures.0 in
+    let on = is_on s r c.args.state.now c.is_enabled.new.state emitted in
     let run = c.args.run.now in
     let now = c.collect_call.new.run in
     let end = c.collect_call.new.state in
@@ -549,11 +549,11 @@ collect_value-returns-in-Some-call-clause-steps g t c =
 
 pub collect_value-returns-in-Some-call-clause-placed : goal.collect_value-returns-in-Some-call-clause-placed
 collect_value-returns-in-Some-call-clause-placed g t c =
-    let at = g.P.LowerParts.spot c.args.lowerer.now.parts in
+    let at = g.P.LowerParts.rctx c.args.lowerer.now.parts in
     let s = pointer_at at c.args.node.now.id c.args.node.now.range in
     let r = at.answers.cfg (site_of s) in
-    let told = rw (c.pointer-at.ensures, c.if-not-branch.false) at c.in_ok-is_enabled.ensures.0 in
-    let on = is_on s r c.args.state.now c.is_enabled.new.state told in
+    let emitted = rw (c.pointer-at.ensures, c.if-not-branch.false) at c.in_ok-is_enabled.ensures.0 in
+    let on = is_on s r c.args.state.now c.is_enabled.new.state emitted in
     value_same c.args.state.now c.is_enabled.new.state c.collect_call.new.state c.collect_call.new.run.done c.collect_call.result on.1
     c.collect_call.ensures.placed
 
@@ -564,7 +564,7 @@ collect_value_opt-collect_value-requires g t c =
 
 pub collect_value_opt-returns-in-None-clause-steps : goal.collect_value_opt-returns-in-None-clause-steps
 collect_value_opt-returns-in-None-clause-steps g t c =
-    let at = g.P.LowerParts.spot c.args.lowerer.now.parts in
+    let at = g.P.LowerParts.rctx c.args.lowerer.now.parts in
     let run = c.args.run.now in
     subst (λ o. ValueBehind (value_part at o) run c.args.state.now (Ok None) run c.args.state.now) (sym c.in-None.is)
     (nothing_behind run c.args.state.now)
@@ -576,7 +576,7 @@ collect_value_opt-returns-in-None-clause-placed g t c =
 
 pub collect_value_opt-returns-in-Some-clause-steps : goal.collect_value_opt-returns-in-Some-clause-steps
 collect_value_opt-returns-in-Some-clause-steps g t c =
-    let at = g.P.LowerParts.spot c.args.lowerer.now.parts in
+    let at = g.P.LowerParts.rctx c.args.lowerer.now.parts in
     subst (λ o. ValueBehind (value_part at o) c.args.run.now c.args.state.now c.collect_value.result c.collect_value.new.run
     c.collect_value.new.state) (sym c.in-Some.is) (rw c.get.ensures at c.collect_value.ensures.steps)
 

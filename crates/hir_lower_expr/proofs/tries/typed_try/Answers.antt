@@ -1,6 +1,6 @@
 use Rattle.std.proofs.Common.{arith, rules}
 use Rattle.std.proofs.lemmas.Grind.{common_steps}
-use Rattle.hir_lower_form.specs.Made.{typed_try_form}
+use Rattle.hir_lower_builder.specs.Made.{typed_try_form}
 use Rattle.hir_lower_expr.proofs.tries.typed_try.Goals as goal
 
 pub returns-in_err-block : goal.returns-in_err-block

@@ -3,7 +3,7 @@ use Rattle.hir_store.specs.Range.{HasParts, HasPathOption}
 use Rattle.hir_store.specs.Stored.{Stored}
 use Rattle.hir_store.specs.declared.ids.HygieneId.{HygieneId}
 use Rattle.hir_store.specs.declared.path.Path.{Path}
-use Rattle.hir_lower_form.specs.Forms.{path_or_missing}
+use Rattle.hir_lower_builder.specs.Forms.{path_or_missing}
 use Rattle.hir_lower_expr.proofs.typed.read_path_expr.Goals as goal
 
 -- what is in the path exists

@@ -5,9 +5,9 @@ use Rattle.hir_store.specs.Range.{HasNone, HasTypeOption, HasTypes}
 use Rattle.hir_store.specs.declared.ids.TypeRefId.{TypeRefId}
 use Rattle.hir_env.specs.Answering.{coroutine_kind}
 use Rattle.hir_env.specs.Whole.{ret_part}
-use Rattle.hir_lower_form.specs.Lowering.{Lowering, ◌>>=◌, pure}
-use Rattle.hir_lower_handlers.specs.Spots.{spot_at}
-use Rattle.hir_lower_item.specs.Answering.{answered_generics, arguments_part, at_place, in_output, receiver_part}
+use Rattle.hir_lower_builder.specs.Lowering.{Lowering, ◌>>=◌, pure}
+use Rattle.hir_lower_callbacks.specs.ResolveCtxs.{rctx_at}
+use Rattle.hir_lower_item.specs.Answering.{resolved_generics, arguments_part, at_place, in_output, receiver_part}
 use Rattle.hir_lower_item.specs.Has.{HasSignature}
 use Rattle.hir_lower_item.specs.Lower.{any_variadic, input_types, is_received, lower_generics, output_type}
 use Rattle.hir_lower_item.specs.declared.function.Signature.{Signature}
@@ -18,9 +18,9 @@ use Rattle.hir_lower_item.proofs.function.function.Goals as goal
 
 pub returns-in_err-generics : goal.returns-in_err-generics
 returns-in_err-generics g c =
-    let at = spot_at (g.E.LowerEnv.answers c.args.env.now) c.args.place in
+    let at = rctx_at (g.E.LowerEnv.answers c.args.env.now) c.args.place in
     let x = c.args.node.now in
-    let read = lower_generics c.args.def (answered_generics at c.args.def x.generics x.where_) in
+    let read = lower_generics c.args.def (resolved_generics at c.args.def x.generics x.where_) in
     let inputs = input_types (receiver_part at c.args.def x.params) (arguments_part at c.args.def x.params) in
     let out = output_type (coroutine_kind x.async_ x.gen_) (ret_part (at_place in_output at) x.ret) in
     let end : List TypeRefId → Option TypeRefId → Lowering Signature = λ args ret. pure (record {
@@ -36,9 +36,9 @@ returns-in_err-generics g c =
 
 pub returns-in_err-args : goal.returns-in_err-args
 returns-in_err-args g c =
-    let at = spot_at (g.E.LowerEnv.answers c.args.env.now) c.args.place in
+    let at = rctx_at (g.E.LowerEnv.answers c.args.env.now) c.args.place in
     let x = c.args.node.now in
-    let read = lower_generics c.args.def (answered_generics at c.args.def x.generics x.where_) in
+    let read = lower_generics c.args.def (resolved_generics at c.args.def x.generics x.where_) in
     let inputs = input_types (receiver_part at c.args.def x.params) (arguments_part at c.args.def x.params) in
     let out = output_type (coroutine_kind x.async_ x.gen_) (ret_part (at_place in_output at) x.ret) in
     let end : List TypeRefId → Option TypeRefId → Lowering Signature = λ args ret. pure (record {
@@ -56,9 +56,9 @@ returns-in_err-args g c =
 
 pub returns-in_err-ret : goal.returns-in_err-ret
 returns-in_err-ret g c =
-    let at = spot_at (g.E.LowerEnv.answers c.args.env.now) c.args.place in
+    let at = rctx_at (g.E.LowerEnv.answers c.args.env.now) c.args.place in
     let x = c.args.node.now in
-    let read = lower_generics c.args.def (answered_generics at c.args.def x.generics x.where_) in
+    let read = lower_generics c.args.def (resolved_generics at c.args.def x.generics x.where_) in
     let inputs = input_types (receiver_part at c.args.def x.params) (arguments_part at c.args.def x.params) in
     let out = output_type (coroutine_kind x.async_ x.gen_) (ret_part (at_place in_output at) x.ret) in
     let end : List TypeRefId → Option TypeRefId → Lowering Signature = λ args ret. pure (record {
@@ -78,9 +78,9 @@ returns-in_err-ret g c =
 
 pub returns : goal.returns
 returns g c =
-    let at = spot_at (g.E.LowerEnv.answers c.args.env.now) c.args.place in
+    let at = rctx_at (g.E.LowerEnv.answers c.args.env.now) c.args.place in
     let x = c.args.node.now in
-    let read = lower_generics c.args.def (answered_generics at c.args.def x.generics x.where_) in
+    let read = lower_generics c.args.def (resolved_generics at c.args.def x.generics x.where_) in
     let inputs = input_types (receiver_part at c.args.def x.params) (arguments_part at c.args.def x.params) in
     let out = output_type (coroutine_kind x.async_ x.gen_) (ret_part (at_place in_output at) x.ret) in
     let end : List TypeRefId → Option TypeRefId → Lowering Signature = λ args ret. pure (record {

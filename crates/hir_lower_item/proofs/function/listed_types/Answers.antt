@@ -5,12 +5,12 @@ use Rattle.hir_syntax.specs.declared.types.Param.{Param as AstParam}
 use Rattle.hir_store.specs.Range.{HasNone, HasTypeOption, HasTypes}
 use Rattle.hir_store.specs.declared.ids.GenericDefId.{GenericDefId}
 use Rattle.hir_store.specs.declared.ids.TypeRefId.{TypeRefId}
-use Rattle.hir_env.specs.Spot.{Spot}
-use Rattle.hir_lower_form.specs.Builder.{Builder}
-use Rattle.hir_lower_form.specs.Lower.{push_some}
-use Rattle.hir_lower_form.specs.Lowering.{Checked, Lowering, Lowers, ◌>>=◌}
-use Rattle.hir_lower_handlers.specs.Spots.{spot_at}
-use Rattle.hir_lower_item.specs.Answering.{answered_receiver, arguments_of}
+use Rattle.hir_env.specs.ResolveCtx.{ResolveCtx}
+use Rattle.hir_lower_builder.specs.Builder.{Builder}
+use Rattle.hir_lower_builder.specs.Lower.{push_some}
+use Rattle.hir_lower_builder.specs.Lowering.{Checked, Lowering, Lowers, ◌>>=◌}
+use Rattle.hir_lower_callbacks.specs.ResolveCtxs.{rctx_at}
+use Rattle.hir_lower_item.specs.Answering.{resolved_receiver, arguments_of}
 use Rattle.hir_lower_item.specs.Lower.{argument_types, lower_receiver, report_each}
 use Rattle.hir_lower_item.proofs.Steps.{refused_first, then_lowers}
 use Rattle.hir_lower_item.proofs.function.listed_types.Goals as goal
@@ -20,11 +20,11 @@ none_left : (o : Option TypeRefId) → ((x : TypeRefId) → o ≡ Some x → ⊥
 none_left None n = refl
 none_left (Some x) n = absurd (n x refl)
 
-faults_here : (at : Spot) (def : GenericDefId) (xs ys : List AstParam) (b d : Builder) (r : Checked (Unit {0})) → xs ≡ ys
+faults_here : (at : ResolveCtx) (def : GenericDefId) (xs ys : List AstParam) (b d : Builder) (r : Checked (Unit {0})) → xs ≡ ys
     → Lowers HasNone (report_each (arguments_of at def xs)) b r d → Lowers HasNone (report_each (arguments_of at def ys)) b r d
 faults_here at def xs ys b d r e h = subst (λ z. Lowers HasNone (report_each (arguments_of at def z)) b r d) e h
 
-types_here : (at : Spot) (def : GenericDefId) (ts us : List TypeRefId) (xs ys : List AstParam) (b d : Builder)
+types_here : (at : ResolveCtx) (def : GenericDefId) (ts us : List TypeRefId) (xs ys : List AstParam) (b d : Builder)
     (r : Checked (List TypeRefId)) → ts ≡ us → xs ≡ ys → Lowers HasTypes (argument_types ts (arguments_of at def xs)) b r d
     → Lowers HasTypes (argument_types us (arguments_of at def ys)) b r d
 types_here at def ts us xs ys b d r e f h =
@@ -33,8 +33,8 @@ types_here at def ts us xs ys b d r e f h =
 
 pub returns-in_err-report_each : goal.returns-in_err-report_each
 returns-in_err-report_each g c =
-    let at = spot_at (g.E.LowerEnv.answers c.args.env.now) c.args.place in
-    let self = lower_receiver (answered_receiver at c.args.def c.args.list.now.self_) in
+    let at = rctx_at (g.E.LowerEnv.answers c.args.env.now) c.args.place in
+    let self = lower_receiver (resolved_receiver at c.args.def c.args.list.now.self_) in
     let others = arguments_of at c.args.def c.args.list.now.params in
     let behind : Option TypeRefId → Lowering (List TypeRefId) = λ o. report_each others >>= (λ _. argument_types (push_some [] o) others) in
     let o = c.in_ok-id.field-0 in
@@ -48,8 +48,8 @@ returns-in_err-report_each g c =
 
 pub returns : goal.returns
 returns g c =
-    let at = spot_at (g.E.LowerEnv.answers c.args.env.now) c.args.place in
-    let self = lower_receiver (answered_receiver at c.args.def c.args.list.now.self_) in
+    let at = rctx_at (g.E.LowerEnv.answers c.args.env.now) c.args.place in
+    let self = lower_receiver (resolved_receiver at c.args.def c.args.list.now.self_) in
     let others = arguments_of at c.args.def c.args.list.now.params in
     let behind : Option TypeRefId → Lowering (List TypeRefId) = λ o. report_each others >>= (λ _. argument_types (push_some [] o) others) in
     let o = c.in_ok-id.field-0 in

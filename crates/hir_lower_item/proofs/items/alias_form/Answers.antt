@@ -5,10 +5,10 @@ use Rattle.hir_store.specs.Range.{HasBounds, HasNone, HasTypeOption}
 use Rattle.hir_store.specs.declared.ids.TypeRefId.{TypeRefId}
 use Rattle.hir_store.specs.declared.type_ref.TypeBound.{TypeBound}
 use Rattle.hir_env.specs.Whole as of
-use Rattle.hir_lower_form.specs.Lower.{lower_bounds, present_type}
-use Rattle.hir_lower_form.specs.Lowering.{Lowering, ◌>>=◌, pure}
-use Rattle.hir_lower_handlers.specs.Spots.{spot_at}
-use Rattle.hir_lower_item.specs.Answering.{answered_generics, at_place, in_opaque, missing_type, required_type}
+use Rattle.hir_lower_builder.specs.Lower.{lower_bounds, present_type}
+use Rattle.hir_lower_builder.specs.Lowering.{Lowering, ◌>>=◌, pure}
+use Rattle.hir_lower_callbacks.specs.ResolveCtxs.{rctx_at}
+use Rattle.hir_lower_item.specs.Answering.{resolved_generics, at_place, in_opaque, missing_type, required_type}
 use Rattle.hir_lower_item.specs.Has.{HasAlias}
 use Rattle.hir_lower_item.specs.Lower.{lower_generics, report_missing}
 use Rattle.hir_lower_item.proofs.Here.{present_here}
@@ -20,10 +20,10 @@ use Rattle.hir_lower_item.proofs.items.alias_form.Goals as goal
 pub returns-in_err-bounds : goal.returns-in_err-bounds
 returns-in_err-bounds g c =
     let a = g.E.LowerEnv.answers c.args.env.now in
-    let at = spot_at a c.args.place in
+    let at = rctx_at a c.args.place in
     let x = c.args.node.now in
     let bounds = lower_bounds [] (of.bounds_part (at_place in_opaque at) x.bounds) in
-    let read = lower_generics c.args.def (answered_generics at c.args.def x.generics x.where_) in
+    let read = lower_generics c.args.def (resolved_generics at c.args.def x.generics x.where_) in
     let ty = present_type (of.type_part (at_place in_opaque at) x.ty) in
     let fault = report_missing (missing_type (of.pointer_at at x.id x.range) x.ty (required_type c.args.container)) in
     let typed : List TypeBound → Option TypeRefId → Lowering (List TypeBound × Option TypeRefId) = λ bs t. fault >>= (λ _. pure (bs, t)) in
@@ -37,10 +37,10 @@ returns-in_err-bounds g c =
 pub returns-in_err-generics : goal.returns-in_err-generics
 returns-in_err-generics g c =
     let a = g.E.LowerEnv.answers c.args.env.now in
-    let at = spot_at a c.args.place in
+    let at = rctx_at a c.args.place in
     let x = c.args.node.now in
     let bounds = lower_bounds [] (of.bounds_part (at_place in_opaque at) x.bounds) in
-    let read = lower_generics c.args.def (answered_generics at c.args.def x.generics x.where_) in
+    let read = lower_generics c.args.def (resolved_generics at c.args.def x.generics x.where_) in
     let ty = present_type (of.type_part (at_place in_opaque at) x.ty) in
     let fault = report_missing (missing_type (of.pointer_at at x.id x.range) x.ty (required_type c.args.container)) in
     let typed : List TypeBound → Option TypeRefId → Lowering (List TypeBound × Option TypeRefId) = λ bs t. fault >>= (λ _. pure (bs, t)) in
@@ -58,10 +58,10 @@ returns-in_err-generics g c =
 pub returns-in_err-ty : goal.returns-in_err-ty
 returns-in_err-ty g c =
     let a = g.E.LowerEnv.answers c.args.env.now in
-    let at = spot_at a c.args.place in
+    let at = rctx_at a c.args.place in
     let x = c.args.node.now in
     let bounds = lower_bounds [] (of.bounds_part (at_place in_opaque at) x.bounds) in
-    let read = lower_generics c.args.def (answered_generics at c.args.def x.generics x.where_) in
+    let read = lower_generics c.args.def (resolved_generics at c.args.def x.generics x.where_) in
     let ty = present_type (of.type_part (at_place in_opaque at) x.ty) in
     let fault = report_missing (missing_type (of.pointer_at at x.id x.range) x.ty (required_type c.args.container)) in
     let typed : List TypeBound → Option TypeRefId → Lowering (List TypeBound × Option TypeRefId) = λ bs t. fault >>= (λ _. pure (bs, t)) in
@@ -83,10 +83,10 @@ returns-in_err-ty g c =
 pub returns-in_err-report_missing : goal.returns-in_err-report_missing
 returns-in_err-report_missing g c =
     let a = g.E.LowerEnv.answers c.args.env.now in
-    let at = spot_at a c.args.place in
+    let at = rctx_at a c.args.place in
     let x = c.args.node.now in
     let bounds = lower_bounds [] (of.bounds_part (at_place in_opaque at) x.bounds) in
-    let read = lower_generics c.args.def (answered_generics at c.args.def x.generics x.where_) in
+    let read = lower_generics c.args.def (resolved_generics at c.args.def x.generics x.where_) in
     let ty = present_type (of.type_part (at_place in_opaque at) x.ty) in
     let fault = report_missing (missing_type (of.pointer_at at x.id x.range) x.ty (required_type c.args.container)) in
     let typed : List TypeBound → Option TypeRefId → Lowering (List TypeBound × Option TypeRefId) = λ bs t. fault >>= (λ _. pure (bs, t)) in
@@ -113,10 +113,10 @@ returns-in_err-report_missing g c =
 pub returns : goal.returns
 returns g c =
     let a = g.E.LowerEnv.answers c.args.env.now in
-    let at = spot_at a c.args.place in
+    let at = rctx_at a c.args.place in
     let x = c.args.node.now in
     let bounds = lower_bounds [] (of.bounds_part (at_place in_opaque at) x.bounds) in
-    let read = lower_generics c.args.def (answered_generics at c.args.def x.generics x.where_) in
+    let read = lower_generics c.args.def (resolved_generics at c.args.def x.generics x.where_) in
     let ty = present_type (of.type_part (at_place in_opaque at) x.ty) in
     let fault = report_missing (missing_type (of.pointer_at at x.id x.range) x.ty (required_type c.args.container)) in
     let typed : List TypeBound → Option TypeRefId → Lowering (List TypeBound × Option TypeRefId) = λ bs t. fault >>= (λ _. pure (bs, t)) in

@@ -4,10 +4,10 @@ use Rattle.hir_store.specs.declared.ids.TypeRefId.{TypeRefId}
 use Rattle.hir_store.specs.declared.type_ref.TraitRef.{TraitRef}
 use Rattle.std.specs.Prelude.{None, Option}
 use Rattle.hir_env.specs.Whole as of
-use Rattle.hir_lower_form.specs.Lower.{type_part}
-use Rattle.hir_lower_form.specs.Lowering.{Lowering, ◌>>=◌, pure}
-use Rattle.hir_lower_handlers.specs.Spots.{spot_at}
-use Rattle.hir_lower_item.specs.Answering.{answered_generics, at_place, in_opaque, in_plain, trait_of}
+use Rattle.hir_lower_builder.specs.Lower.{type_part}
+use Rattle.hir_lower_builder.specs.Lowering.{Lowering, ◌>>=◌, pure}
+use Rattle.hir_lower_callbacks.specs.ResolveCtxs.{rctx_at}
+use Rattle.hir_lower_item.specs.Answering.{resolved_generics, at_place, in_opaque, in_plain, trait_of}
 use Rattle.hir_lower_item.specs.Has.{HasImpl, HasTraitOption}
 use Rattle.hir_lower_item.specs.Lower.{lower_generics, lower_trait_ref}
 use Rattle.hir_lower_item.proofs.Here.{type_here}
@@ -19,11 +19,11 @@ use Rattle.hir_lower_item.proofs.items.impl_form.Goals as goal
 pub returns-in_err-self_type : goal.returns-in_err-self_type
 returns-in_err-self_type g c =
     let a = g.E.LowerEnv.answers c.args.env.now in
-    let at = spot_at a c.args.place in
+    let at = rctx_at a c.args.place in
     let x = c.args.node.now in
     let ty = type_part None (of.type_part (at_place in_plain at) x.self_ty) in
     let tr = lower_trait_ref (trait_of (at_place in_opaque at) x.trait_) in
-    let read = lower_generics c.args.def (answered_generics at c.args.def x.generics x.where_) in
+    let read = lower_generics c.args.def (resolved_generics at c.args.def x.generics x.where_) in
     let behind : TypeRefId → Option TraitRef → Lowering (TypeRefId × Option TraitRef) = λ s t. read >>= (λ _. pure (s, t)) in
     refused_first HasType HasImpl ty (λ s. tr >>= behind s) c.args.state.now c.type_or_error.new.state c.in_err-self_type.field-0.0
     c.from_residual.result c.from_residual.ensures.1
@@ -33,11 +33,11 @@ returns-in_err-self_type g c =
 pub returns-in_err-trait_ : goal.returns-in_err-trait_
 returns-in_err-trait_ g c =
     let a = g.E.LowerEnv.answers c.args.env.now in
-    let at = spot_at a c.args.place in
+    let at = rctx_at a c.args.place in
     let x = c.args.node.now in
     let ty = type_part None (of.type_part (at_place in_plain at) x.self_ty) in
     let tr = lower_trait_ref (trait_of (at_place in_opaque at) x.trait_) in
-    let read = lower_generics c.args.def (answered_generics at c.args.def x.generics x.where_) in
+    let read = lower_generics c.args.def (resolved_generics at c.args.def x.generics x.where_) in
     let behind : TypeRefId → Option TraitRef → Lowering (TypeRefId × Option TraitRef) = λ s t. read >>= (λ _. pure (s, t)) in
     then_lowers HasType HasImpl ty (λ s. tr >>= behind s) c.args.state.now c.type_or_error.new.state c.trait_ref.new.state
     c.in_ok-self_type.self_type c.from_residual-in_err-trait_.result
@@ -51,11 +51,11 @@ returns-in_err-trait_ g c =
 pub returns-in_err-generics : goal.returns-in_err-generics
 returns-in_err-generics g c =
     let a = g.E.LowerEnv.answers c.args.env.now in
-    let at = spot_at a c.args.place in
+    let at = rctx_at a c.args.place in
     let x = c.args.node.now in
     let ty = type_part None (of.type_part (at_place in_plain at) x.self_ty) in
     let tr = lower_trait_ref (trait_of (at_place in_opaque at) x.trait_) in
-    let read = lower_generics c.args.def (answered_generics at c.args.def x.generics x.where_) in
+    let read = lower_generics c.args.def (resolved_generics at c.args.def x.generics x.where_) in
     let behind : TypeRefId → Option TraitRef → Lowering (TypeRefId × Option TraitRef) = λ s t. read >>= (λ _. pure (s, t)) in
     let s = c.in_ok-self_type.self_type in
     let t = c.in_ok-trait_.trait_ in
@@ -74,11 +74,11 @@ returns-in_err-generics g c =
 pub returns : goal.returns
 returns g c =
     let a = g.E.LowerEnv.answers c.args.env.now in
-    let at = spot_at a c.args.place in
+    let at = rctx_at a c.args.place in
     let x = c.args.node.now in
     let ty = type_part None (of.type_part (at_place in_plain at) x.self_ty) in
     let tr = lower_trait_ref (trait_of (at_place in_opaque at) x.trait_) in
-    let read = lower_generics c.args.def (answered_generics at c.args.def x.generics x.where_) in
+    let read = lower_generics c.args.def (resolved_generics at c.args.def x.generics x.where_) in
     let behind : TypeRefId → Option TraitRef → Lowering (TypeRefId × Option TraitRef) = λ s t. read >>= (λ _. pure (s, t)) in
     let s = c.in_ok-self_type.self_type in
     let t = c.in_ok-trait_.trait_ in

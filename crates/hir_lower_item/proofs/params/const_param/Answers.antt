@@ -7,9 +7,9 @@ use Rattle.hir_store.specs.declared.ids.TypeRefId.{TypeRefId}
 use Rattle.hir_store.specs.declared.type_ref.ConstRef.{ConstRef}
 use Rattle.hir_env.specs.Answering.{name_or_missing}
 use Rattle.hir_env.specs.Whole as of
-use Rattle.hir_lower_form.specs.Lower.{type_part}
-use Rattle.hir_lower_form.specs.Lowering.{HasNumber, Lowering, ◌>>=◌, add_param, pure}
-use Rattle.hir_lower_handlers.specs.Spots.{spot_at}
+use Rattle.hir_lower_builder.specs.Lower.{type_part}
+use Rattle.hir_lower_builder.specs.Lowering.{HasNumber, Lowering, ◌>>=◌, add_param, pure}
+use Rattle.hir_lower_callbacks.specs.ResolveCtxs.{rctx_at}
 use Rattle.hir_lower_item.specs.Answering.{at_place, in_plain}
 use Rattle.hir_lower_item.specs.Has.{HasConstOption}
 use Rattle.hir_lower_item.specs.Lower.{present_constant}
@@ -20,10 +20,10 @@ use Rattle.hir_lower_item.proofs.params.const_param.Goals as goal
 pub returns-in_err-ty : goal.returns-in_err-ty
 returns-in_err-ty g c =
     let a = g.E.LowerEnv.answers c.args.env.now in
-    let at = at_place in_plain (spot_at a c.args.place) in
+    let at = at_place in_plain (rctx_at a c.args.place) in
     let n = name_or_missing c.args.name.now in
     let ty = type_part None (of.type_part at c.args.ty.now) in
-    let default = present_constant (option_map (of.answered_constant at) c.args.default.now) in
+    let default = present_constant (option_map (of.resolved_constant at) c.args.default.now) in
     let last : TypeRefId → Option ConstRef → Lowering (Unit {0}) = λ t d.
     add_param (param.ConstParamData (record { name = n; ty = t; default = d })) >>= (λ k. pure tt) in
     refused_first HasType HasNone ty (λ t. default >>= last t) c.args.state.now c.type_or_error.new.state c.in_err-ty.field-0.0
@@ -34,10 +34,10 @@ returns-in_err-ty g c =
 pub returns-in_err-default : goal.returns-in_err-default
 returns-in_err-default g c =
     let a = g.E.LowerEnv.answers c.args.env.now in
-    let at = at_place in_plain (spot_at a c.args.place) in
+    let at = at_place in_plain (rctx_at a c.args.place) in
     let n = name_or_missing c.args.name.now in
     let ty = type_part None (of.type_part at c.args.ty.now) in
-    let default = present_constant (option_map (of.answered_constant at) c.args.default.now) in
+    let default = present_constant (option_map (of.resolved_constant at) c.args.default.now) in
     let last : TypeRefId → Option ConstRef → Lowering (Unit {0}) = λ t d.
     add_param (param.ConstParamData (record { name = n; ty = t; default = d })) >>= (λ k. pure tt) in
     then_lowers HasType HasNone ty (λ t. default >>= last t) c.args.state.now c.type_or_error.new.state c.constant_if_present.new.state
@@ -52,10 +52,10 @@ returns-in_err-default g c =
 pub returns-in_err-add_param : goal.returns-in_err-add_param
 returns-in_err-add_param g c =
     let a = g.E.LowerEnv.answers c.args.env.now in
-    let at = at_place in_plain (spot_at a c.args.place) in
+    let at = at_place in_plain (rctx_at a c.args.place) in
     let n = name_or_missing c.args.name.now in
     let ty = type_part None (of.type_part at c.args.ty.now) in
-    let default = present_constant (option_map (of.answered_constant at) c.args.default.now) in
+    let default = present_constant (option_map (of.resolved_constant at) c.args.default.now) in
     let last : TypeRefId → Option ConstRef → Lowering (Unit {0}) = λ t d.
     add_param (param.ConstParamData (record { name = n; ty = t; default = d })) >>= (λ k. pure tt) in
     let x = param.ConstParamData (record { name = n; ty = c.in_ok-ty.ty; default = c.in_ok-default.default }) in

@@ -1,12 +1,12 @@
 use Rattle.std.proofs.Common.{◌≡◌, length}
 use Rattle.hir_store.specs.Range.{Grows}
-use Rattle.hir_lower_handlers.specs.Spots.{spot_at}
+use Rattle.hir_lower_callbacks.specs.ResolveCtxs.{rctx_at}
 use Rattle.hir_lower_item.specs.Answering.{predicates_part}
 use Rattle.hir_lower_item.specs.Lower.{lower_predicates}
 use Rattle.hir_lower_item.proofs.predicates.each_predicate.Given as goal
 
 abbrev pub invariant-loop-left : goal.invariant-loop-left
-invariant-loop-left g l = let at = spot_at (g.E.LowerEnv.answers l.env) l.place in record {
+invariant-loop-left g l = let at = rctx_at (g.E.LowerEnv.answers l.env) l.place in record {
   so_far : lower_predicates (predicates_part at l.def l.fn.left) l.fn.state ≡ lower_predicates (predicates_part at l.def l.left) l.state;
   placed : Grows l.fn.state.stored l.state.stored;
 }

@@ -11,5 +11,5 @@ type_or_error-requires g c = grind (arith, common_steps)
 
 pub returns-in-Some : goal.returns-in-Some
 returns-in-Some g c =
-    let at = g.P.LowerParts.spot c.args.lowerer.now.parts in
+    let at = g.P.LowerParts.rctx c.args.lowerer.now.parts in
     output_of at c.place.result c.args.ret.now c.in-Some.ty _ c.type_or_error.result _ c.in-Some.is c.place.ensures c.type_or_error.ensures

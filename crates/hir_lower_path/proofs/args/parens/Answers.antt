@@ -1,8 +1,8 @@
 use Rattle.std.proofs.Common.{arith, []}
 use Rattle.std.proofs.lemmas.Grind.{common_steps}
 use Rattle.hir_env.specs.Whole.{ret_part, type_args_part}
-use Rattle.hir_lower_form.specs.Lower as spec
-use Rattle.hir_lower_form.specs.Paths.{parens_form}
+use Rattle.hir_lower_builder.specs.Lower as spec
+use Rattle.hir_lower_builder.specs.Paths.{parens_form}
 use Rattle.hir_lower_path.proofs.Sugar.{parens_lower, sugared_has}
 use Rattle.hir_lower_path.proofs.args.parens.Goals as goal
 
@@ -13,7 +13,7 @@ returns-in_default g c = grind (arith, common_steps, sugared_has)
 pub returns : goal.returns
 unfolding parens_form
 returns g c =
-    let at = g.P.LowerParts.spot c.args.lowerer.now.parts in
+    let at = g.P.LowerParts.rctx c.args.lowerer.now.parts in
     rw (c.in-Some.is, c.in_ok-sugared_args.ensures)
     (parens_lower (spec.lower_parts [] (type_args_part at c.in-Some.parens)) (spec.output_part (ret_part at c.args.ret.now))
     c.args.state.now c.type_args.new.state c.alloc_type.new.self c.output.new.state c.in_ok-types.types c.in_ok-tuple.tuple

@@ -1,6 +1,6 @@
 use Rattle.std.proofs.lemmas.Grind.{common_steps}
 use Rattle.std.proofs.Common.{arith}
-use Rattle.hir_lower_form.specs.Paths.{with_trait}
+use Rattle.hir_lower_builder.specs.Paths.{with_trait}
 use Rattle.hir_lower_path.proofs.local.local_trait.Goals as goal
 
 pub projected_form-requires-clause-ty : goal.projected_form-requires-clause-ty

@@ -1,6 +1,6 @@
 use Rattle.std.proofs.lemmas.Grind.{common_steps}
 use Rattle.std.proofs.Common.{arith}
-use Rattle.hir_lower_form.specs.Paths.{with_trait}
+use Rattle.hir_lower_builder.specs.Paths.{with_trait}
 use Rattle.hir_lower_path.proofs.path.trait_form.Goals as goal
 
 pub returns-in-None : goal.returns-in-None

@@ -1,6 +1,6 @@
 use Rattle.std.proofs.Common.{arith}
 use Rattle.std.proofs.lemmas.Grind.{common_steps}
-use Rattle.hir_lower_form.specs.Types.{binding_form}
+use Rattle.hir_lower_builder.specs.Types.{binding_form}
 use Rattle.hir_lower_type.proofs.args.binding_form.Goals as goal
 
 pub args_if_present-requires : goal.args_if_present-requires

@@ -2,7 +2,7 @@ use Rattle.std.proofs.Common.{◌≡◌, length, []}
 use Rattle.std.specs.Prelude.{map}
 use Rattle.hir_store.specs.Range.{Grows, HasUseArgs}
 use Rattle.hir_env.specs.Paths.{use_of}
-use Rattle.hir_lower_form.specs.Types.{lower_uses}
+use Rattle.hir_lower_builder.specs.Types.{lower_uses}
 use Rattle.hir_lower_type.proofs.bounds.use_args.Given as goal
 
 abbrev pub invariant-loop-left : goal.invariant-loop-left

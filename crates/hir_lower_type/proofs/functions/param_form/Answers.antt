@@ -12,7 +12,7 @@ type_or_error-requires g c = grind (arith, common_steps)
 
 pub returns-in_err-type_or_error : goal.returns-in_err-type_or_error
 returns-in_err-type_or_error g c =
-    let at = g.P.LowerParts.spot c.args.lowerer.now.parts in
+    let at = g.P.LowerParts.rctx c.args.lowerer.now.parts in
     let x = c.args.node.now in
     handed_on HasTypeOption (lower_param (param_level at x)) c.args.state.now _ c.from_residual.result c.type_or_error.new.state
     c.from_residual.ensures.1

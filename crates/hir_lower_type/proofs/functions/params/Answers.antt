@@ -2,7 +2,7 @@ use Rattle.std.proofs.lemmas.Grind.{common_steps}
 use Rattle.std.proofs.Common.{arith, ◌∙◌, []}
 use Rattle.hir_store.specs.Range.{HasTypes}
 use Rattle.hir_env.specs.Whole.{into, read_param}
-use Rattle.hir_lower_form.specs.Lower.{lower_parts}
+use Rattle.hir_lower_builder.specs.Lower.{lower_parts}
 use Rattle.hir_lower_type.specs.Params.{params_at}
 use Rattle.hir_lower_type.proofs.Params.{handed_on, params_more, params_refused}
 use Rattle.hir_lower_type.proofs.functions.params.Goals as goal
@@ -10,7 +10,7 @@ use Rattle.hir_lower_type.proofs.functions.params.Goals as goal
 pub returns-in_err-id : goal.returns-in_err-id
 returns-in_err-id g c =
     let l = c.loop-left in
-    let at = g.P.LowerParts.spot c.args.lowerer.now.parts in
+    let at = g.P.LowerParts.rctx c.args.lowerer.now.parts in
     handed_on HasTypes (lower_parts [] (params_at at c.args.left.now)) c.args.state.now _ c.from_residual.result c.param.new.state
     c.from_residual.ensures.1
     (λ other.

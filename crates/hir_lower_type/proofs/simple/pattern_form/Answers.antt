@@ -1,5 +1,5 @@
 use Rattle.std.proofs.Common.{rules}
-use Rattle.hir_lower_form.specs.Types.{pattern_type_form}
+use Rattle.hir_lower_builder.specs.Types.{pattern_type_form}
 use Rattle.hir_lower_type.proofs.simple.pattern_form.Goals as goal
 
 pub returns : goal.returns

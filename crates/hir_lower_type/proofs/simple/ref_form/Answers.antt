@@ -1,6 +1,6 @@
 use Rattle.std.proofs.lemmas.Grind.{common_steps}
 use Rattle.std.proofs.Common.{rules, arith}
-use Rattle.hir_lower_form.specs.Types.{ref_type_form}
+use Rattle.hir_lower_builder.specs.Types.{ref_type_form}
 use Rattle.hir_lower_type.proofs.simple.ref_form.Goals as goal
 
 pub returns : goal.returns

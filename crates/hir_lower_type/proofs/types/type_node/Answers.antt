@@ -13,7 +13,7 @@ for_form-requires g c = rw (opened (kind.rolls-ForType _ _ ∙ sym c.in-ForType.
 pub returns-in-ForType : goal.returns-in-ForType
 returns-in-ForType g c =
     let is = opened (kind.rolls-ForType _ _ ∙ sym c.in-ForType.is) in
-    type_as (g.P.LowerParts.spot c.args.lowerer.now.parts) c.args.binder.now c.args.node.now _ c.pointer-at.result _ _ _
+    type_as (g.P.LowerParts.rctx c.args.lowerer.now.parts) c.args.binder.now c.args.node.now _ c.pointer-at.result _ _ _
     c.pointer-at.ensures is c.for_form.ensures
 
 pub slice_form-requires : goal.slice_form-requires
@@ -22,7 +22,7 @@ slice_form-requires g c = rw (opened (kind.rolls-SliceType _ ∙ sym c.in-SliceT
 pub returns-in-SliceType : goal.returns-in-SliceType
 returns-in-SliceType g c =
     let is = opened (kind.rolls-SliceType _ ∙ sym c.in-SliceType.is) in
-    type_as (g.P.LowerParts.spot c.args.lowerer.now.parts) c.args.binder.now c.args.node.now _ c.pointer-at.result _ _ _
+    type_as (g.P.LowerParts.rctx c.args.lowerer.now.parts) c.args.binder.now c.args.node.now _ c.pointer-at.result _ _ _
     c.pointer-at.ensures is c.slice_form.ensures
 
 pub pointer_form-requires : goal.pointer_form-requires
@@ -31,7 +31,7 @@ pointer_form-requires g c = rw (opened (kind.rolls-PtrType _ _ ∙ sym c.in-PtrT
 pub returns-in-PtrType : goal.returns-in-PtrType
 returns-in-PtrType g c =
     let is = opened (kind.rolls-PtrType _ _ ∙ sym c.in-PtrType.is) in
-    type_as (g.P.LowerParts.spot c.args.lowerer.now.parts) c.args.binder.now c.args.node.now _ c.pointer-at.result _ _ _
+    type_as (g.P.LowerParts.rctx c.args.lowerer.now.parts) c.args.binder.now c.args.node.now _ c.pointer-at.result _ _ _
     c.pointer-at.ensures is c.pointer_form.ensures
 
 pub ref_form-requires : goal.ref_form-requires
@@ -40,7 +40,7 @@ ref_form-requires g c = rw (opened (kind.rolls-RefType _ _ _ ∙ sym c.in-RefTyp
 pub returns-in-RefType : goal.returns-in-RefType
 returns-in-RefType g c =
     let is = opened (kind.rolls-RefType _ _ _ ∙ sym c.in-RefType.is) in
-    type_as (g.P.LowerParts.spot c.args.lowerer.now.parts) c.args.binder.now c.args.node.now _ c.pointer-at.result _ _ _
+    type_as (g.P.LowerParts.rctx c.args.lowerer.now.parts) c.args.binder.now c.args.node.now _ c.pointer-at.result _ _ _
     c.pointer-at.ensures is c.ref_form.ensures
 
 pub array_form-requires : goal.array_form-requires
@@ -50,7 +50,7 @@ array_form-requires g c =
 pub returns-in-ArrayType : goal.returns-in-ArrayType
 returns-in-ArrayType g c =
     let is = opened (kind.rolls-ArrayType _ _ ∙ sym c.in-ArrayType.is) in
-    type_as (g.P.LowerParts.spot c.args.lowerer.now.parts) c.args.binder.now c.args.node.now _ c.pointer-at.result _ _ _
+    type_as (g.P.LowerParts.rctx c.args.lowerer.now.parts) c.args.binder.now c.args.node.now _ c.pointer-at.result _ _ _
     c.pointer-at.ensures is c.array_form.ensures
 
 pub tuple_form-requires : goal.tuple_form-requires
@@ -59,7 +59,7 @@ tuple_form-requires g c = rw (opened (kind.rolls-TupleType _ ∙ sym c.in-TupleT
 pub returns-in-TupleType : goal.returns-in-TupleType
 returns-in-TupleType g c =
     let is = opened (kind.rolls-TupleType _ ∙ sym c.in-TupleType.is) in
-    type_as (g.P.LowerParts.spot c.args.lowerer.now.parts) c.args.binder.now c.args.node.now _ c.pointer-at.result _ _ _
+    type_as (g.P.LowerParts.rctx c.args.lowerer.now.parts) c.args.binder.now c.args.node.now _ c.pointer-at.result _ _ _
     c.pointer-at.ensures is c.tuple_form.ensures
 
 pub path_form-requires : goal.path_form-requires
@@ -68,7 +68,7 @@ path_form-requires g c = rw (opened (kind.rolls-PathType _ ∙ sym c.in-PathType
 pub returns-in-PathType : goal.returns-in-PathType
 returns-in-PathType g c =
     let is = opened (kind.rolls-PathType _ ∙ sym c.in-PathType.is) in
-    type_as (g.P.LowerParts.spot c.args.lowerer.now.parts) c.args.binder.now c.args.node.now _ c.pointer-at.result _ _ _
+    type_as (g.P.LowerParts.rctx c.args.lowerer.now.parts) c.args.binder.now c.args.node.now _ c.pointer-at.result _ _ _
     c.pointer-at.ensures is c.path_form.ensures
 
 pub fn_form-requires : goal.fn_form-requires
@@ -78,7 +78,7 @@ fn_form-requires g c =
 pub returns-in-FnPtrType : goal.returns-in-FnPtrType
 returns-in-FnPtrType g c =
     let is = opened (kind.rolls-FnPtrType _ _ _ _ ∙ sym c.in-FnPtrType.is) in
-    type_as (g.P.LowerParts.spot c.args.lowerer.now.parts) c.args.binder.now c.args.node.now _ c.pointer-at.result _ _ _
+    type_as (g.P.LowerParts.rctx c.args.lowerer.now.parts) c.args.binder.now c.args.node.now _ c.pointer-at.result _ _ _
     c.pointer-at.ensures is c.fn_form.ensures
 
 pub impl_form-requires : goal.impl_form-requires
@@ -90,7 +90,7 @@ dyn_form-requires g c = rw (opened (kind.rolls-DynTraitType _ ∙ sym c.in-DynTr
 pub returns-in-DynTraitType : goal.returns-in-DynTraitType
 returns-in-DynTraitType g c =
     let is = opened (kind.rolls-DynTraitType _ ∙ sym c.in-DynTraitType.is) in
-    type_as (g.P.LowerParts.spot c.args.lowerer.now.parts) c.args.binder.now c.args.node.now _ c.pointer-at.result _ _ _
+    type_as (g.P.LowerParts.rctx c.args.lowerer.now.parts) c.args.binder.now c.args.node.now _ c.pointer-at.result _ _ _
     c.pointer-at.ensures is c.dyn_form.ensures
 
 pub pattern_form-requires : goal.pattern_form-requires
@@ -100,19 +100,19 @@ pattern_form-requires g c =
 pub returns-in-PatternType : goal.returns-in-PatternType
 returns-in-PatternType g c =
     let is = opened (kind.rolls-PatternType _ _ ∙ sym c.in-PatternType.is) in
-    type_as (g.P.LowerParts.spot c.args.lowerer.now.parts) c.args.binder.now c.args.node.now _ c.pointer-at.result _ _ _
+    type_as (g.P.LowerParts.rctx c.args.lowerer.now.parts) c.args.binder.now c.args.node.now _ c.pointer-at.result _ _ _
     c.pointer-at.ensures is c.pattern_form.ensures
 
 pub returns-in-NeverType : goal.returns-in-NeverType
 returns-in-NeverType g c =
     let is = opened (kind.rolls-NeverType ∙ sym c.in-NeverType.is) in
-    type_as (g.P.LowerParts.spot c.args.lowerer.now.parts) c.args.binder.now c.args.node.now _ c.pointer-at.result _ _ _
+    type_as (g.P.LowerParts.rctx c.args.lowerer.now.parts) c.args.binder.now c.args.node.now _ c.pointer-at.result _ _ _
     c.pointer-at.ensures is c.never_form.ensures
 
 pub returns-in-InferType : goal.returns-in-InferType
 returns-in-InferType g c =
     let is = opened (kind.rolls-InferType ∙ sym c.in-InferType.is) in
-    type_as (g.P.LowerParts.spot c.args.lowerer.now.parts) c.args.binder.now c.args.node.now _ c.pointer-at.result _ _ _
+    type_as (g.P.LowerParts.rctx c.args.lowerer.now.parts) c.args.binder.now c.args.node.now _ c.pointer-at.result _ _ _
     c.pointer-at.ensures is c.infer_form.ensures
 
 pub returns-in-MacroType-Some : goal.returns-in-MacroType-Some

@@ -6,8 +6,9 @@ use Rattle.hir_store.proofs.visit.visit_arg_lists.Goals as goal
 
 pub loop-list-preserved : goal.loop-list-preserved
 loop-list-preserved g c =
-    let one = of_present (of_args g.V.StoreVisitor.enters) in
-    let next = each_next g.V.StoreVisitor.after_type g.V.StoreVisitor.after_lifetime one c.args.lists.now c.loop-list.list-index
+    let one = of_present of_args in
+    let next = each_next g.V.StoreVisitor.after_type g.V.StoreVisitor.after_lifetime g.V.StoreVisitor.after_args g.V.StoreVisitor.enters one
+    c.args.lists.now c.loop-list.list-index
     c.list-item.result c.loop-list.visitor c.loop-list-test.true c.list-item.is in
     grind (arith, next)
 

@@ -6,7 +6,8 @@ use Rattle.hir_store.proofs.visit.visit_bounds.Goals as goal
 
 pub loop-bound-preserved : goal.loop-bound-preserved
 loop-bound-preserved g c =
-    let next = each_next g.V.StoreVisitor.after_type g.V.StoreVisitor.after_lifetime of_bound c.args.bounds.now c.loop-bound.bound-index
+    let next = each_next g.V.StoreVisitor.after_type g.V.StoreVisitor.after_lifetime g.V.StoreVisitor.after_args g.V.StoreVisitor.enters
+    of_bound c.args.bounds.now c.loop-bound.bound-index
     c.bound-item.result c.loop-bound.visitor c.loop-bound-test.true c.bound-item.is in
     grind (arith, next)
 

@@ -16,7 +16,7 @@ returns-in_default-kind_at t c = λ e. (e, no_kind _ _ _ _ (search rules))
 pub of_kind-requires : goal.of_kind-requires
 of_kind-requires t c = rw c.node_at.ensures.parts (record {
   callable = λ alloc ks vs old at same_kinds same_nodes. let d = c.decreases in omega (arith, d);
-  told = λ alloc ks vs old new at r same_kinds same_nodes p. rw (← same_kinds) (rw (← same_nodes) p.1);
+  emitted = λ alloc ks vs old new at r same_kinds same_nodes p. rw (← same_kinds) (rw (← same_nodes) p.1);
 })
 
 pub returns : goal.returns

@@ -2,6 +2,6 @@ use Rattle.lower_run.proofs.Listed.{listed_came}
 use Rattle.lower_run.proofs.run.listing.Goals as goal
 
 pub returns : goal.returns
-returns c =
+returns g c =
     listed_came _ _ c.in_ok-document.document _ (rw (← c.root.ensures) c.in_ok-document.ensures.document)
     c.lowered_listing-listed.ensures

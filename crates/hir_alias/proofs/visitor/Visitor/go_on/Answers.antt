@@ -12,7 +12,7 @@ loop-id-preserved c =
     c.requires.placed i.same i.placed c.in-Some.ensures c.in_ok-step.ensures i.sound in
     record { same = x.0; placed = x.1; sound = x.2 }
 
-pub returns-clause-told : goal.returns-clause-told
-returns-clause-told c =
+pub returns-clause-emitted : goal.returns-clause-emitted
+returns-clause-emitted c =
     let s = c.args.self.now.lowered.now in
-    walk_ends s.store s.generic_params c.args.root c.loop-id.self.notes c.loop-id.invariant.sound c.in_default.ensures.0
+    walk_ends s.store s.generic_params c.args.root c.loop-id.self.tracks c.loop-id.invariant.sound c.in_default.ensures.0

@@ -18,8 +18,8 @@ invariant_of-self-2-clause-known_around c = λ i s k e h.
       | inr new ↦ c.args.self.now.known_here k (λ u. h (ap (λ (x : SeenNames). mark_of x k) (sym new ∙ c.replace-around.ensures.value) ∙ u))
     ]
 
-pub returns-clause-noted : goal.returns-clause-noted
-returns-clause-noted c = λ k. entered_is _ _ (set_of c.args.self.now.here k) _ _ _
+pub returns-clause-tracked : goal.returns-clause-tracked
+returns-clause-tracked c = λ k. entered_is _ _ (set_of c.args.self.now.here k) _ _ _
     (ap (λ (s : SeenNames). set_of s k) c.replace-around.ensures.after ∙ c.new-first.ensures k)
     (sets_push k c.args.self.now.outer.items c.push_reserved.new.self.items c.args.self.now.here
     (let p = rw c.in_ok-reserve.ensures.items at c.push_reserved.ensures.items in rw c.replace-around.ensures.value at p))

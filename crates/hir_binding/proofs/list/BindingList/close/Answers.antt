@@ -4,7 +4,7 @@ use Rattle.std.proofs.Common.{List, Option, ◌∙◌, ap, arith, slice_get, len
 use Rattle.hir_binding.specs.declared.seen.SeenNames.{SeenNames}
 use Rattle.hir_binding.specs.Seen.{mark_of, set_of}
 use Rattle.hir_binding.specs.Entries.{ended_entry}
-use Rattle.hir_binding.specs.Bindings.{mode_of, problem_of, noted}
+use Rattle.hir_binding.specs.Bindings.{mode_of, problem_of, tracked}
 use Rattle.hir_binding.proofs.Places.{pushed_end, pushed_before}
 use Rattle.hir_binding.proofs.Lists.{sets_push, mode_ended, problem_ended, closed, has_entry}
 use Rattle.hir_binding.proofs.list.BindingList.close.Goals as goal
@@ -21,13 +21,13 @@ invariant_of-self-clause-known_around c = λ i s k e h.
     let t = c.take_last-around.ensures.items in
     c.args.self.now.known_around i s k (rw t (pushed_before c.take_last-around.new.self.items c.take_last-around.result i s e)) h
 
-pub returns-clause-noted : goal.returns-clause-noted
-returns-clause-noted c = λ k.
+pub returns-clause-tracked : goal.returns-clause-tracked
+returns-clause-tracked c = λ k.
     let entry = ap (λ (l : List Entry). slice_get l k) (with_items_is c.args.self.now.entries c.end_alternative.new.entries
     (c.end_alternative.auto.entries ∙ c.as_mut_slice.ensures.len)) ∙
     (c.end_alternative.ensures k ∙ ap (λ (l : List Entry). option_map (ended_entry (mark_of c.args.self.now.here k)) (slice_get l k))
     c.as_mut_slice.ensures.value) in
-    rw c.replace.ensures.value (closed (noted c.args.self.now k) _ _ (set_of c.replace.new.dest k) _
+    rw c.replace.ensures.value (closed (tracked c.args.self.now k) _ _ (set_of c.replace.new.dest k) _
     (ap (λ (o : Option Entry). mode_of o) entry ∙ mode_ended (mark_of c.args.self.now.here k) _)
     (ap (λ (o : Option Entry). problem_of o) entry ∙ problem_ended (mark_of c.args.self.now.here k) _
     (λ h. has_entry c.args.self.now.entries.items k (let i = c.args.self.now.known_here k h in let e =

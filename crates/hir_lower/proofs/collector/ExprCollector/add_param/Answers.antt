@@ -10,3 +10,6 @@ returns-clause-names c = grind (arith, common_steps)
 
 pub invariant_of-self : goal.invariant_of-self
 invariant_of-self c = grind (arith, common_steps)
+
+pub returns-clause-tracks : goal.returns-clause-tracks
+returns-clause-tracks c = grind (arith, common_steps)

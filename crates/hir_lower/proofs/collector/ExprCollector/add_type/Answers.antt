@@ -16,3 +16,6 @@ invariant_of-self c = grind (arith, common_steps)
 
 pub returns-clause-calls : goal.returns-clause-calls
 returns-clause-calls c = grind (arith, common_steps)
+
+pub returns-clause-tracks : goal.returns-clause-tracks
+returns-clause-tracks c = grind (arith, common_steps)

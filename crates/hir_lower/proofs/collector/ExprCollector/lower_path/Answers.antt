@@ -19,6 +19,12 @@ returns-clause-rooted g c =
 pub returns-clause-names : goal.returns-clause-names
 returns-clause-names g c = rw (← c.mode.ensures) (c.in_ok-lowered.ensures.names (c.args.self.now.paired c.if-self.false))
 
+pub returns-clause-tracked : goal.returns-clause-tracked
+returns-clause-tracked g c = rw (← c.mode.ensures) (c.in_ok-lowered.ensures.tracked (c.args.self.now.paired c.if-self.false))
+
+pub returns-then-self-clause-tracked : goal.returns-then-self-clause-tracked
+returns-then-self-clause-tracked g c = grind (arith, common_steps)
+
 pub returns-then-self-clause-stays : goal.returns-then-self-clause-stays
 returns-then-self-clause-stays g c = λ n. stays_refl _
 

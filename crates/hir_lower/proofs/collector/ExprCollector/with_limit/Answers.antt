@@ -1,6 +1,6 @@
 use Rattle.std.proofs.Common.{rules}
 use Rattle.hir_lower.proofs.Collecting.{fresh_collected}
-use Rattle.hir_lower.proofs.MadeNames.{fresh_apart, fresh_defined, fresh_limits, fresh_mapped}
+use Rattle.hir_lower.proofs.GeneratedNames.{fresh_apart, fresh_defined, fresh_limits, fresh_mapped}
 use Rattle.hir_lower.proofs.collector.ExprCollector.with_limit.Goals as goal
 
 pub returns-clause-place : goal.returns-clause-place

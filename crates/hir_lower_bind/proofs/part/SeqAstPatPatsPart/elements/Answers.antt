@@ -1,11 +1,11 @@
 use Rattle.std.proofs.Common.{arith, ◌∙◌}
 use Rattle.std.proofs.lemmas.Grind.{common_steps}
 use Rattle.hir_env.specs.Whole.{elements_part}
-use Rattle.hir_lower_form.specs.Lower.{lower_elements}
-use Rattle.hir_lower_form.specs.Pats.{no_elements}
+use Rattle.hir_lower_builder.specs.Lower.{lower_elements}
+use Rattle.hir_lower_builder.specs.Pats.{no_elements}
 use Rattle.hir_lower_pat.specs.Bindings.{table_of}
 use Rattle.hir_lower_pat.specs.Methods.{HasElements}
-use Rattle.hir_lower_pat.proofs.AimTurns.{grows_on}
+use Rattle.hir_lower_pat.proofs.AssigneeFuel.{grows_on}
 use Rattle.hir_lower_pat.proofs.Elements.{one_more, refused}
 use Rattle.hir_lower_pat.proofs.ElementSteps.{refused_named}
 use Rattle.hir_lower_pat.proofs.KindLemmas.{first_of}
@@ -20,7 +20,7 @@ loop-left-smaller g c = grind (arith, common_steps)
 pub loop-left-preserved : goal.loop-left-preserved
 loop-left-preserved g c =
     let l = c.loop-left in
-    let at = g.S.Here.spot c.args.parts.now in
+    let at = g.S.Here.rctx c.args.parts.now in
     let may = rw (first_of l.left.now c.one-item.result c.one-item.is c.in-len1-up.len_at_least) at l.invariant.may in
     let h = c.in_ok-done.ensures in
     record {
@@ -34,7 +34,7 @@ loop-left-preserved g c =
 pub returns-in_err-done : goal.returns-in_err-done
 returns-in_err-done g c =
     let l = c.loop-left in
-    let at = g.S.Here.spot c.args.parts.now in
+    let at = g.S.Here.rctx c.args.parts.now in
     refused_named HasElements (lower_elements no_elements (elements_part at c.args.self.now)) c.args.bindings.now c.element.new.bindings
     c.args.state.now c.element.new.state _ c.from_residual.result c.from_residual.ensures.1
     (λ other. let h = c.in_err-done.ensures other in (

@@ -1,7 +1,7 @@
 use Rattle.std.proofs.Common.{arith, ◌∙◌, None, []}
 use Rattle.std.proofs.lemmas.Grind.{common_steps}
 use Rattle.hir_env.specs.Whole.{exprs_part}
-use Rattle.hir_lower_pat.specs.Aims.{found_at}
+use Rattle.hir_lower_pat.specs.Assignees.{found_at}
 use Rattle.hir_lower_pat.specs.TargetLists.{HasArrayParts, array_read}
 use Rattle.hir_lower_pat.proofs.TargetLists.{array_refused}
 use Rattle.hir_lower_pat.proofs.TypePats.{handed_on}
@@ -10,12 +10,12 @@ use Rattle.hir_lower_bind.proofs.target_elements.SeqAstExprTargetsPart.around_do
 pub returns-in_err-done : goal.returns-in_err-done
 returns-in_err-done g c =
     let l = c.loop-left in
-    let spot = g.T.Here.spot c.args.parts.now in
-    handed_on HasArrayParts (array_read (found_at spot) ([], None, []) (exprs_part spot c.args.self.now)) c.args.state.now _
+    let rctx = g.T.Here.rctx c.args.parts.now in
+    handed_on HasArrayParts (array_read (found_at rctx) ([], None, []) (exprs_part rctx c.args.self.now)) c.args.state.now _
     c.from_residual.result c.array_element.new.state c.from_residual.ensures.1
     (λ other.
     let h = c.in_err-done.ensures other in
-    let is = array_refused spot l.left.now c.one-item.result l.state c.array_element.new.state l.done _ c.one-item.is
+    let is = array_refused rctx l.left.now c.one-item.result l.state c.array_element.new.state l.done _ c.one-item.is
     c.in-len1-up.len_at_least h.0 in
     (l.invariant.so_far ∙ is, h.1))
 

@@ -1,6 +1,6 @@
 use Rattle.std.proofs.Common.{arith}
 use Rattle.std.proofs.lemmas.Grind.{common_steps}
-use Rattle.hir_lower_form.specs.Forms.{record_contents}
+use Rattle.hir_lower_builder.specs.Forms.{record_contents}
 use Rattle.hir_lower_expr.proofs.records.OptionAstRecordExprFieldListRecordPart.lower.Goals as goal
 
 pub listed-requires : goal.listed-requires

@@ -2,7 +2,7 @@ use Rattle.std.proofs.Common.{◌≡◌, ◌∙◌, ap, subst, Bool}
 use Rattle.std.specs.Prelude.{IfSome}
 use Rattle.std.specs.List.{position_or_len}
 use Rattle.std.specs.Map.{keys_of, lookup}
-use Rattle.hir_lower_form.specs.Pats.{Key}
+use Rattle.hir_lower_builder.specs.Pats.{Key}
 use Rattle.hir_lower_pat.proofs.NameLemmas.{same_keys}
 use Rattle.hir_lower_pat.proofs.bindings.Bindings.find.Goals as goal
 

@@ -1,5 +1,5 @@
 use Rattle.std.proofs.lemmas.Grind.{common_steps}
-use Rattle.hir_lower_form.specs.Pats.{settle}
+use Rattle.hir_lower_builder.specs.Pats.{settle}
 use Rattle.std.proofs.Common.{◌≡◌, ◌+◌, arith, suc, subst, sym}
 use Rattle.hir_lower_pat.proofs.NameLemmas.{Settled, entry_exists, settled_on, settled_past, drop_entry, drop_none}
 use Rattle.hir_lower_pat.proofs.bindings.Bindings.settle.Goals as goal
@@ -19,7 +19,7 @@ loop-number-preserved g c =
     let settled : Settled b (suc n) first c.match-get_index.state
     = elim c.match-get_index.branch [
       | in-Some w ↦ subst (λ s. Settled b (suc n) first s) (sym w.state-is)
-          (settled_on b n first c.loop-number.state _ _ w.problem.result (sym w.in-Some.ensures) w.problem.ensures.noted
+          (settled_on b n first c.loop-number.state _ _ w.problem.result (sym w.in-Some.ensures) w.problem.ensures.tracked
           w.set_problem.ensures before)
       | in_default w ↦ subst (λ s. Settled b (suc n) first s) (sym w.state-is)
           (settled_past b n first c.loop-number.state (sym w.in_default.ensures) before)

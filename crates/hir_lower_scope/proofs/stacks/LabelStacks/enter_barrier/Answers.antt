@@ -1,8 +1,7 @@
-use Rattle.std.proofs.lemmas.Grind.{common_steps}
 use Rattle.std.proofs.Common.{arith, ◌≡◌, ◌+◌, length, reverse}
 use Rattle.std.proofs.lemmas.List.{length-reverse}
 use Rattle.hir_lower_scope.specs.declared.stacks.Opened.TheVariants as opened
-use Rattle.hir_lower_scope.proofs.StackLemmas.{reverse_push, sorted_border}
+use Rattle.hir_lower_scope.proofs.StackLemmas.{reverse_push, sorted_barrier}
 use Rattle.hir_lower_scope.proofs.stacks.LabelStacks.enter_barrier.Goals as goal
 
 pub invariant_of-self-2 : goal.invariant_of-self-2
@@ -15,13 +14,7 @@ invariant_of-self-2 c =
       c.in_ok-reserve.ensures.items,
       c.in_ok-push.ensures.items,
       reverse_push i.opened.items opened.Barrier,
-      reverse_push i.borders.items (c.len-depth.result + 1),
+      reverse_push i.barriers.items (c.len-depth.result + 1),
     )
-    (sorted_border i.places.entries i.labels.items (reverse i.opened.items) (reverse i.macros.items) (reverse i.tries.items)
-    (reverse i.borders.items) c.self.invariant (c.len-depth.result + 1) (omega (arith, deep)))
-
-pub invariant_of-self-in_err-push : goal.invariant_of-self-in_err-push
-invariant_of-self-in_err-push c = grind (arith, common_steps)
-
-pub returns-clause-ok : goal.returns-clause-ok
-returns-clause-ok c = grind (arith, common_steps)
+    (sorted_barrier i.names.entries i.labels i.macros (reverse i.opened.items) (reverse i.tries.items) (reverse i.barriers.items)
+    c.self.invariant (c.len-depth.result + 1) (omega (arith, deep)))

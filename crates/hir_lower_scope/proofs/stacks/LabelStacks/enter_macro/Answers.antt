@@ -1,6 +1,9 @@
-use Rattle.std.proofs.lemmas.Grind.{common_steps}
-use Rattle.std.proofs.Common.{arith, ◌≡◌, length, reverse}
+use Rattle.std.proofs.Common.{arith, ◌≡◌, ◌∙◌, ap, length, reverse, cond, true}
 use Rattle.std.proofs.lemmas.List.{length-reverse}
+use Rattle.std.specs.BTreeMap.{is_at}
+use Rattle.std.specs.BTreeSet.{contains}
+use Rattle.hir_lower_scope.specs.Depths.{by_key}
+use Rattle.hir_lower_scope.specs.Stacks.{macro_cmp}
 use Rattle.hir_lower_scope.specs.declared.stacks.Opened.TheVariants as opened
 use Rattle.hir_lower_scope.proofs.StackLemmas.{reverse_push, sorted_macro}
 use Rattle.hir_lower_scope.proofs.stacks.LabelStacks.enter_macro.Goals as goal
@@ -10,15 +13,8 @@ invariant_of-self-2 c =
     let i = c.self.inside in
     let deep : c.len-depth.result ≡ length (reverse i.opened.items) =
     omega (arith, c.len-depth.ensures, c.in_ok-reserve.ensures.len, i.opened.ok.0, length-reverse i.opened.items) in
-    rw (
-      c.push_reserved.ensures.items,
-      c.in_ok-reserve.ensures.items,
-      c.in_ok-push.ensures.items,
-      reverse_push i.opened.items (opened.MacroDef c.args.def),
-      reverse_push i.macros.items (record { depth = c.len-depth.result; def = c.args.def }),
-    )
-    (sorted_macro i.places.entries i.labels.items (reverse i.opened.items) (reverse i.macros.items) (reverse i.tries.items)
-    (reverse i.borders.items) c.self.invariant (record { depth = c.len-depth.result; def = c.args.def }) deep)
-
-pub invariant_of-self-in_err-push : goal.invariant_of-self-in_err-push
-invariant_of-self-in_err-push c = grind (arith, common_steps)
+    rw (c.push_reserved.ensures.items, c.in_ok-reserve.ensures.items, reverse_push i.opened.items (opened.MacroDef c.args.def))
+    (sorted_macro i.names.entries i.labels i.macros (reverse i.opened.items) (reverse i.tries.items) (reverse i.barriers.items)
+    c.self.invariant c.args.def c.insert.new.self
+    (λ x. c.in_ok-insert.ensures.updates.0 x
+    ∙ ap (λ d. cond (is_at (by_key macro_cmp (c.args.def, d)) x) true (contains (by_key macro_cmp) i.macros x)) deep))

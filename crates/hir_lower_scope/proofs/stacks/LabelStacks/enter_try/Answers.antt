@@ -1,4 +1,3 @@
-use Rattle.std.proofs.lemmas.Grind.{common_steps}
 use Rattle.std.proofs.Common.{arith, ◌≡◌, length, reverse}
 use Rattle.std.proofs.lemmas.List.{length-reverse}
 use Rattle.hir_lower_scope.specs.declared.stacks.Opened.TheVariants as opened
@@ -17,11 +16,5 @@ invariant_of-self-2 c =
       reverse_push i.opened.items (opened.Try c.args.label c.args.typed),
       reverse_push i.tries.items (record { depth = c.len-depth.result; label = c.args.label; typed = c.args.typed }),
     )
-    (sorted_try i.places.entries i.labels.items (reverse i.opened.items) (reverse i.macros.items) (reverse i.tries.items)
-    (reverse i.borders.items) c.self.invariant (record { depth = c.len-depth.result; label = c.args.label; typed = c.args.typed }) deep)
-
-pub invariant_of-self-in_err-push : goal.invariant_of-self-in_err-push
-invariant_of-self-in_err-push c = grind (arith, common_steps)
-
-pub returns-clause-ok : goal.returns-clause-ok
-returns-clause-ok c = grind (arith, common_steps)
+    (sorted_try i.names.entries i.labels i.macros (reverse i.opened.items) (reverse i.tries.items) (reverse i.barriers.items)
+    c.self.invariant (record { depth = c.len-depth.result; label = c.args.label; typed = c.args.typed }) deep)

@@ -6,6 +6,6 @@ lower_type_pat-requires g c = rw (c.inside_constant.ensures, c.place.ensures) c.
 
 pub returns : goal.returns
 returns g c =
-    let at = g.P.LowerParts.spot c.args.lowerer.now.parts in
+    let at = g.P.LowerParts.rctx c.args.lowerer.now.parts in
     pat_here at c.inside_constant.result c.place.result c.args.self.now _ c.lower_type_pat.result _
     c.inside_constant.ensures c.place.ensures c.lower_type_pat.ensures

@@ -1,12 +1,12 @@
 use Rattle.std.proofs.Common.{◌≡◌, length, []}
 use Rattle.hir_store.specs.Range.{Grows, HasTypes}
 use Rattle.hir_env.specs.Whole.{types_part}
-use Rattle.hir_lower_form.specs.Lower.{lower_parts}
-use Rattle.hir_lower_form.specs.Nests.{Each}
+use Rattle.hir_lower_builder.specs.Lower.{lower_parts}
+use Rattle.hir_lower_builder.specs.Nests.{Each}
 use Rattle.hir_lower_type.proofs.part.SeqAstType_TypesPart.lower_each.Given as goal
 
 abbrev pub invariant-loop-left : goal.invariant-loop-left
-invariant-loop-left g l = let at = g.P.LowerParts.spot l.lowerer.parts in record {
+invariant-loop-left g l = let at = g.P.LowerParts.rctx l.lowerer.parts in record {
   so_far : lower_parts [] (types_part at l.fn.self) l.fn.state ≡ lower_parts l.done (types_part at l.left) l.state;
   may : Each ((g.P.LowerParts.can l.lowerer.parts).type_ at.place) l.left;
   placed : Grows l.fn.state.stored l.state.stored × HasTypes l.state.stored l.done;

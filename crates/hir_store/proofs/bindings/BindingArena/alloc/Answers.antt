@@ -25,8 +25,8 @@ invariant_of-self-2 c =
       (paged.0 ∙ ap length more, paged.1),
     )
 
-pub returns : goal.returns
-returns c =
+pub returns-clause-stored : goal.returns-clause-stored
+returns-clause-stored c =
     let i = c.self.inside in
     let a : Bindings = bindings_of (joined i.pages.pages.items) i.definitions.items i.owners i.limit in
     let len : c.len-at.result ≡ length a.entries = c.len-at.ensures ∙ ap (λ v. length v.entries) (sym c.self.view_is) in

@@ -1,8 +1,10 @@
-use Rattle.std.proofs.Common.{subst}
+use Rattle.std.proofs.Common.{◌↔◌, IsErrOf, subst}
 use Rattle.hir_store.specs.declared.builder.ExpressionStoreBuilder.TheView.{view}
+use Rattle.hir_store.specs.Arenas.{AtLimit}
+use Rattle.hir_store.specs.declared.error.StoreError.TheVariants.{Full}
 use Rattle.hir_store.specs.Stored.{Stored}
 use Rattle.hir_store.specs.Range.{HasLifetime}
-use Rattle.hir_store.specs.Storing.{Extends, Stores, alloc_lifetime}
+use Rattle.hir_store.specs.StoreSink.{Extends, Stores, alloc_lifetime}
 use Rattle.hir_store.proofs.Extending.{extends_lifetime}
 use Rattle.hir_store.proofs.Range.{range_lifetime, stores_lifetime}
 use Rattle.hir_store.proofs.builder.ExpressionStoreBuilder.alloc_lifetime.Goals as goal
@@ -10,17 +12,22 @@ use Rattle.hir_store.proofs.builder.ExpressionStoreBuilder.alloc_lifetime.Goals 
 pub invariant_of-self : goal.invariant_of-self
 invariant_of-self c =
     let s : Stored = view c.self.inside in
-    range_lifetime s c.args.lifetime c.args.source _ _ c.alloc.ensures c.self.invariant
+    range_lifetime s c.args.lifetime c.args.source _ _ c.alloc.ensures.stored c.self.invariant
 
 pub returns-clause-stored : goal.returns-clause-stored
 returns-clause-stored c =
     let s : Stored = view c.self.inside in
     let P : Stored → Type 0 = λ v.
     Stores HasLifetime (alloc_lifetime c.args.lifetime c.args.source) v c.alloc.result (record s { lifetimes = c.alloc.new.self }) in
-    subst P c.self.view_is (stores_lifetime s c.args.lifetime c.args.source _ _ c.alloc.ensures)
+    subst P c.self.view_is (stores_lifetime s c.args.lifetime c.args.source _ _ c.alloc.ensures.stored)
 
 pub returns-clause-stays : goal.returns-clause-stays
 returns-clause-stays c =
     let s : Stored = view c.self.inside in
     let P : Stored → Type 0 = λ v. Extends v (record s { lifetimes = c.alloc.new.self }) in
-    subst P c.self.view_is (extends_lifetime s c.args.lifetime c.args.source _ _ c.alloc.ensures)
+    subst P c.self.view_is (extends_lifetime s c.args.lifetime c.args.source _ _ c.alloc.ensures.stored)
+
+pub returns-clause-full : goal.returns-clause-full
+returns-clause-full c =
+    let P : Stored → Type 0 = λ v. IsErrOf c.alloc.result Full ↔ AtLimit v.lifetimes in
+    subst P c.self.view_is c.alloc.ensures.full

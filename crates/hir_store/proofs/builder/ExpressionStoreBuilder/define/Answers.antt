@@ -4,7 +4,7 @@ use Rattle.hir_store.specs.declared.builder.ExpressionStoreBuilder.TheView.{view
 use Rattle.hir_store.specs.Bindings.{with_definition}
 use Rattle.hir_store.specs.Stored.{Stored}
 use Rattle.hir_store.specs.Range.{HasPat}
-use Rattle.hir_store.specs.Storing.{Extends, define}
+use Rattle.hir_store.specs.StoreSink.{Extends, define}
 use Rattle.hir_store.proofs.Extending.{extends_definition, extends_refl}
 use Rattle.hir_store.proofs.Range.{range_definition}
 use Rattle.hir_store.proofs.builder.ExpressionStoreBuilder.define.Goals as goal

@@ -2,7 +2,7 @@ use Rattle.std.proofs.lemmas.Grind.{common_steps}
 use Rattle.std.proofs.Common.{[], ◌∷◌, ◌++◌, subst, arith}
 use Rattle.hir_store.specs.declared.builder.ExpressionStoreBuilder.TheView.{view}
 use Rattle.hir_store.specs.Stored.{Stored}
-use Rattle.hir_store.specs.Storing.{Extends, enter_block}
+use Rattle.hir_store.specs.StoreSink.{Extends, enter_block}
 use Rattle.hir_store.proofs.Extending.{extends_block, extends_refl}
 use Rattle.hir_store.proofs.builder.ExpressionStoreBuilder.enter_block.Goals as goal
 

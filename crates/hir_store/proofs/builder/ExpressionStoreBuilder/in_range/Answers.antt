@@ -20,15 +20,15 @@ returns c =
         pat_sources = pats.as_many;
         type_sources = types.as_many;
         lifetime_sources = lifetimes.as_many;
-        exprs = exprs.ways;
-        labels = labels.ways;
-        pats = pats.ways;
+        exprs = exprs.mappings;
+        labels = labels.mappings;
+        pats = pats.mappings;
         targets = c.self.invariant.4;
         fields = c.self.invariant.1;
         pat_fields = c.self.invariant.2;
         as_many_bindings = bindings.as_many;
         definitions = c.self.invariant.3;
-        types = types.ways;
-        lifetimes = lifetimes.ways;
+        types = types.mappings;
+        lifetimes = lifetimes.mappings;
       };
     })

@@ -4,7 +4,7 @@ use Rattle.hir_store.specs.declared.builder.ExpressionStoreBuilder.TheView.{view
 use Rattle.hir_store.specs.Bindings.{with_owner}
 use Rattle.hir_store.specs.Stored.{Stored}
 use Rattle.hir_store.specs.Range.{HasExpr}
-use Rattle.hir_store.specs.Storing.{Extends, own}
+use Rattle.hir_store.specs.StoreSink.{Extends, own}
 use Rattle.hir_store.proofs.Extending.{extends_owner}
 use Rattle.hir_store.proofs.Range.{range_owner}
 use Rattle.hir_store.proofs.builder.ExpressionStoreBuilder.own.Goals as goal

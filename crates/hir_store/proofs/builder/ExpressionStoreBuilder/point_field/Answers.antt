@@ -3,7 +3,7 @@ use Rattle.hir_store.specs.declared.builder.ExpressionStoreBuilder.TheView.{view
 use Rattle.hir_store.specs.Stored.{Stored}
 use Rattle.hir_store.specs.Range.{HasExpr}
 use Rattle.hir_store.specs.FirstMap.{with_first_by}
-use Rattle.hir_store.specs.Storing.{Extends, same_expr}
+use Rattle.hir_store.specs.StoreSink.{Extends, same_expr}
 use Rattle.hir_store.proofs.Extending.{extends_field, extends_refl}
 use Rattle.hir_store.proofs.Range.{range_field}
 use Rattle.hir_store.proofs.builder.ExpressionStoreBuilder.point_field.Goals as goal

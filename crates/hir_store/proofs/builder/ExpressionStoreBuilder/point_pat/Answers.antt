@@ -2,15 +2,15 @@ use Rattle.std.proofs.lemmas.Grind.{common_steps}
 use Rattle.std.proofs.Common.{subst, arith}
 use Rattle.hir_store.specs.declared.builder.ExpressionStoreBuilder.TheView.{view}
 use Rattle.hir_store.specs.Stored.{Stored}
-use Rattle.hir_store.specs.Storing.{Extends, point_pat}
-use Rattle.hir_store.specs.Arenas.{with_way}
+use Rattle.hir_store.specs.StoreSink.{Extends, point_pat}
+use Rattle.hir_store.specs.Arenas.{with_mapping}
 use Rattle.hir_store.proofs.Extending.{extends_point_pat, extends_refl}
 use Rattle.hir_store.proofs.builder.ExpressionStoreBuilder.point_pat.Goals as goal
 
 pub returns-clause-stays : goal.returns-clause-stays
 returns-clause-stays c =
     let s : Stored = view c.self.inside in
-    let P : Stored → Type 0 = λ v. Extends v (record s { pats = with_way s.pats c.args.node c.args.id }) in
+    let P : Stored → Type 0 = λ v. Extends v (record s { pats = with_mapping s.pats c.args.node c.args.id }) in
     rw c.in_ok-point.ensures.ok (subst P c.self.view_is (extends_point_pat s c.args.node c.args.id))
 
 pub returns-in_err-point-clause-stays : goal.returns-in_err-point-clause-stays

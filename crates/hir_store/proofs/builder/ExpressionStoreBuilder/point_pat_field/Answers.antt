@@ -4,7 +4,7 @@ use Rattle.hir_store.specs.declared.builder.ExpressionStoreBuilder.TheView.{view
 use Rattle.hir_store.specs.Stored.{Stored}
 use Rattle.hir_store.specs.Range.{HasPat}
 use Rattle.hir_store.specs.FirstMap.{with_first_by}
-use Rattle.hir_store.specs.Storing.{Extends, same_pat, point_pat_field}
+use Rattle.hir_store.specs.StoreSink.{Extends, same_pat, point_pat_field}
 use Rattle.hir_store.proofs.Extending.{extends_pat_field, extends_refl}
 use Rattle.hir_store.proofs.Range.{range_pat_field}
 use Rattle.hir_store.proofs.builder.ExpressionStoreBuilder.point_pat_field.Goals as goal

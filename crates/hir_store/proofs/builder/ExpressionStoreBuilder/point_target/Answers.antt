@@ -4,7 +4,7 @@ use Rattle.hir_store.specs.declared.builder.ExpressionStoreBuilder.TheView.{view
 use Rattle.hir_store.specs.Pointers.{same_pointer}
 use Rattle.hir_store.specs.Stored.{Stored}
 use Rattle.hir_store.specs.Range.{HasPat}
-use Rattle.hir_store.specs.Storing.{Extends}
+use Rattle.hir_store.specs.StoreSink.{Extends}
 use Rattle.hir_store.proofs.Extending.{extends_point_target, extends_refl}
 use Rattle.hir_store.proofs.Range.{range_target}
 use Rattle.hir_store.proofs.builder.ExpressionStoreBuilder.point_target.Goals as goal

@@ -3,7 +3,7 @@ use Rattle.std.proofs.Common.{subst, arith}
 use Rattle.hir_store.specs.declared.builder.ExpressionStoreBuilder.TheView.{view}
 use Rattle.hir_store.specs.Bindings.{with_problem}
 use Rattle.hir_store.specs.Stored.{Stored}
-use Rattle.hir_store.specs.Storing.{Extends, set_problem}
+use Rattle.hir_store.specs.StoreSink.{Extends, set_problem}
 use Rattle.hir_store.proofs.Extending.{extends_problem}
 use Rattle.hir_store.proofs.Range.{range_problem}
 use Rattle.hir_store.proofs.builder.ExpressionStoreBuilder.set_problem.Goals as goal

@@ -3,7 +3,7 @@ use Rattle.std.specs.Prelude.{option_map}
 use Rattle.std.specs.List.{position_or_len}
 use Rattle.std.specs.Map.{keys_of, lookup}
 use Rattle.std.proofs.lemmas.Grind.{common_steps}
-use Rattle.hir_store.proofs.KeyLemmas.{found_at, is_found, nothing_found, numbered, stands}
+use Rattle.hir_store.proofs.KeyLemmas.{found_at, is_found, nothing_found, numbered, corresponds}
 use Rattle.hir_store.proofs.keyed.Keyed.find.Goals as goal
 
 pub returns-in_err-number-clause-value : goal.returns-in_err-number-clause-value
@@ -15,7 +15,7 @@ returns-in_err-number-clause-value g c =
 
 pub returns-in_err-value-clause-value : goal.returns-in_err-value-clause-value
 returns-in_err-value-clause-value g c =
-    let within = stands g.K.Ord.cmp g.met.K.Ord.total g.K.PartialEq.eq g.met.K.Ord.matches_eq c.self.inside.entries.items
+    let within = corresponds g.K.Ord.cmp g.met.K.Ord.total g.K.PartialEq.eq g.met.K.Ord.matches_eq c.self.inside.entries.items
     c.self.inside.places.entries c.self.invariant c.args.key.now c.in_ok-number.field-0.now (sym c.in_ok-number.ensures.value) in
     grind (arith, common_steps, within, c.in_err-value.ensures.lookup, c.deref.ensures.value)
 
@@ -27,7 +27,7 @@ returns-clause-value g c =
     let found = c.in_ok-value.field-0.now in
     let is = sym c.in_ok-number.ensures.value in
     let at_number = c.in_ok-value.ensures.lookup.1 ∙ ap (λ xs. get_or xs number found) c.deref.ensures.value in
-    let within = stands g.K.Ord.cmp g.met.K.Ord.total g.K.PartialEq.eq g.met.K.Ord.matches_eq es places c.self.invariant c.args.key.now
+    let within = corresponds g.K.Ord.cmp g.met.K.Ord.total g.K.PartialEq.eq g.met.K.Ord.matches_eq es places c.self.invariant c.args.key.now
     number is in
     let is_value = is_found g.K.Ord.cmp g.met.K.Ord.total g.K.PartialEq.eq g.met.K.Ord.matches_eq es places c.self.invariant c.args.key.now
     number is in

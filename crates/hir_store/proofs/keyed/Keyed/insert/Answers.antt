@@ -4,14 +4,14 @@ use Rattle.std.specs.Map.{lookup}
 use Rattle.std.specs.BTreeMap.{is_at}
 use Rattle.indexmap.specs.IndexMap.{insert_entry}
 use Rattle.hir_store.specs.Keyed.{place_from, written}
-use Rattle.hir_store.proofs.KeyLemmas.{comes_last, is_written, placed_back, placed_more, placed_still, stands}
+use Rattle.hir_store.proofs.KeyLemmas.{comes_last, is_written, placed_back, placed_more, placed_still, corresponds}
 use Rattle.hir_store.proofs.keyed.Keyed.insert.Goals as goal
 
 pub write-requires : goal.write-requires
 write-requires g c =
     let is = ap (λ key. lookup (is_at (g.K.Ord.cmp key)) c.self.inside.places.entries) (sym c.requires)
     ∙ (sym c.in_ok-place.ensures.old ∙ c.in-Some.is) in
-    let within = stands g.K.Ord.cmp g.met.K.Ord.total g.K.PartialEq.eq g.met.K.Ord.matches_eq c.self.inside.entries.items
+    let within = corresponds g.K.Ord.cmp g.met.K.Ord.total g.K.PartialEq.eq g.met.K.Ord.matches_eq c.self.inside.entries.items
     c.self.inside.places.entries c.self.invariant c.args.key c.in-Some.place is in
     omega (arith, within, ap length c.reserve.ensures.items)
 

@@ -14,10 +14,10 @@ invariant_of-self-2 c = λ x.
     let item = c.args.item in
     let count : c.len-number.result ≡ length c.self.inside.printed.items
     = omega (arith, c.len-number.ensures, c.self.inside.printed.ok.0) in
-    let noted = λ (y : ℕ). c.in_ok-note.ensures.ok y ∙ ap (λ n. cond (nat_eq y item) (Some n) (get_or places y None)) count in
+    let tracked = λ (y : ℕ). c.in_ok-track.ensures.ok y ∙ ap (λ n. cond (nat_eq y item) (Some n) (get_or places y None)) count in
     let new = ap (position (nat_eq item)) c.self.view_is ∙ sym c.in_default.ensures in
     let items = c.push_reserved.ensures.items ∙ ap (λ ys. ys ++ item ∷ []) c.reserve.ensures.items in
-    placed_more xs places c.note.new.places.items item c.self.invariant new noted x ∙ ap (position (nat_eq x)) (sym items)
+    placed_more xs places c.track.new.places.items item c.self.invariant new tracked x ∙ ap (position (nat_eq x)) (sym items)
 
 pub returns-clause-number : goal.returns-clause-number
 returns-clause-number c =

@@ -1,5 +1,0 @@
-use Rattle.hir_binding.proofs.Recent.{shown_alike}
-use Rattle.hir_binding.proofs.laws.ends_over_recent.Goals as goal
-
-pub returns : goal.returns
-returns c = shown_alike

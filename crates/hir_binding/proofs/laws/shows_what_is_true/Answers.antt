@@ -1,5 +1,0 @@
-use Rattle.hir_binding.proofs.Theorem.{shows}
-use Rattle.hir_binding.proofs.laws.shows_what_is_true.Goals as goal
-
-pub returns : goal.returns
-returns c = shows

@@ -1,5 +1,0 @@
-use Rattle.std.proofs.Common.{refl}
-use Rattle.hir_item_noted.proofs.same_words.Goals as goal
-
-pub returns : goal.returns
-returns c = record { name_of_self = refl; types = λ def k. refl }

@@ -1,5 +1,0 @@
-use Rattle.hir_item_result.proofs.Whole.{item_results as proved}
-use Rattle.hir_item_result.proofs.item_results.Goals as goal
-
-pub returns : goal.returns
-returns c = proved

@@ -1,5 +1,0 @@
-use Rattle.hir_item_result.proofs.Apart.{items_apart}
-use Rattle.hir_item_result.proofs.items_made_apart.Goals as goal
-
-pub returns : goal.returns
-returns c = items_apart

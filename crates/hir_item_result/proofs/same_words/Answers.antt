@@ -1,5 +1,0 @@
-use Rattle.hir_item_result.proofs.Words.{same_words as proved}
-use Rattle.hir_item_result.proofs.same_words.Goals as goal
-
-pub returns : goal.returns
-returns c = proved

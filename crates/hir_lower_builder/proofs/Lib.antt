@@ -1,0 +1,11 @@
+pub mod Binaries
+pub mod Aliases
+pub mod BlockLemmas
+pub mod Chosen
+pub mod Entering
+pub mod Inside
+pub mod Kept
+pub mod PathNames
+pub mod Ribs
+pub mod Runs
+pub mod Walked

@@ -1,0 +1,2 @@
+pub mod ResolveCtxs
+pub mod Nests

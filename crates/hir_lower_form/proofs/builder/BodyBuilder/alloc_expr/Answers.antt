@@ -1,7 +1,0 @@
-use Rattle.std.proofs.Common.{rules}
-use Rattle.hir_lower_form.specs.Lowering.{alloc_expr}
-use Rattle.hir_lower_form.proofs.builder.BodyBuilder.alloc_expr.Goals as goal
-
-pub returns : goal.returns
-unfolding alloc_expr
-returns g c = search rules

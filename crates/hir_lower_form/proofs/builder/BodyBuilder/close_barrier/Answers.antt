@@ -1,7 +1,0 @@
-use Rattle.std.proofs.Common.{rules}
-use Rattle.hir_lower_form.specs.Lowering.{close, close_barrier}
-use Rattle.hir_lower_form.proofs.builder.BodyBuilder.close_barrier.Goals as goal
-
-pub returns : goal.returns
-unfolding close_barrier close
-returns g c = search rules

@@ -1,7 +1,0 @@
-use Rattle.std.proofs.Common.{rules}
-use Rattle.hir_lower_form.specs.Lowering.{enter_block}
-use Rattle.hir_lower_form.proofs.builder.BodyBuilder.enter_block.Goals as goal
-
-pub returns-in-Some : goal.returns-in-Some
-unfolding enter_block
-returns-in-Some g c = search rules

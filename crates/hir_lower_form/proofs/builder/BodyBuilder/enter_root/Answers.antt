@@ -1,7 +1,0 @@
-use Rattle.std.proofs.Common.{rules}
-use Rattle.hir_lower_form.specs.Lowering.{enter_root}
-use Rattle.hir_lower_form.proofs.builder.BodyBuilder.enter_root.Goals as goal
-
-pub returns : goal.returns
-unfolding enter_root
-returns g c = search rules

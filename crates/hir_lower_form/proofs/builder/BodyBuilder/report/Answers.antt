@@ -1,7 +1,0 @@
-use Rattle.std.proofs.Common.{rules}
-use Rattle.hir_lower_form.specs.Lowering.{report}
-use Rattle.hir_lower_form.proofs.builder.BodyBuilder.report.Goals as goal
-
-pub returns : goal.returns
-unfolding report
-returns g c = search rules

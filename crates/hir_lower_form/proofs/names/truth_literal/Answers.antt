@@ -1,5 +1,0 @@
-use Rattle.std.proofs.Common.{rules}
-use Rattle.hir_lower_form.proofs.names.truth_literal.Goals as goal
-
-pub returns : goal.returns
-returns c = search rules

@@ -1,5 +1,0 @@
-use Rattle.std.proofs.Common.{rules}
-use Rattle.hir_lower_form.proofs.parts.Lowerer.pointer.Goals as goal
-
-pub returns : goal.returns
-returns g c = search rules

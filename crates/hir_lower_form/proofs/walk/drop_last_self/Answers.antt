@@ -1,6 +1,0 @@
-use Rattle.std.proofs.lemmas.Grind.{common_steps}
-use Rattle.std.proofs.Common.{arith}
-use Rattle.hir_lower_form.proofs.walk.drop_last_self.Goals as goal
-
-pub returns-then-goes : goal.returns-then-goes
-returns-then-goes c = grind (arith, common_steps)

@@ -1,7 +1,0 @@
-use Rattle.std.proofs.Common.{rules}
-use Rattle.hir_lower_form.specs.Lower.{constant_form}
-use Rattle.hir_lower_handlers.proofs.constant.rooted_constant.Goals as goal
-
-pub returns : goal.returns
-unfolding constant_form
-returns g c = search rules

@@ -1,9 +1,0 @@
-use Rattle.std.proofs.lemmas.Grind.{common_steps}
-use Rattle.std.proofs.Common.{arith}
-use Rattle.hir_lower_handlers.proofs.handlers.HandlersHandling.maybe_collect_expr.Goals as goal
-
-pub expr-requires : goal.expr-requires
-expr-requires g c = grind (arith, common_steps)
-
-pub returns : goal.returns
-returns g c = grind (arith, common_steps)

@@ -1,6 +1,0 @@
-use Rattle.std.proofs.Common.{◌∙◌, sym}
-use Rattle.hir_lower_pat.proofs.AimLemmas.{dots_are}
-use Rattle.hir_lower_pat.proofs.aims.AstExprTargetNode.is_dots.Goals as goal
-
-pub returns : goal.returns
-returns g c = c.is_dots_kind.ensures ∙ sym (dots_are (g.H.Here.spot c.args.parts.now) c.args.self.now)

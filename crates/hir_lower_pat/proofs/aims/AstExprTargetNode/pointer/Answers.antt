@@ -1,6 +1,0 @@
-use Rattle.std.proofs.Common.{◌∙◌, sym}
-use Rattle.hir_env.proofs.Pointers.{pointer_is_own}
-use Rattle.hir_lower_pat.proofs.aims.AstExprTargetNode.pointer.Goals as goal
-
-pub returns : goal.returns
-returns g c = c.pointer_of.ensures ∙ sym (pointer_is_own (g.H.Here.spot c.args.parts.now) c.args.self.now)

@@ -1,0 +1,8 @@
+use Rattle.std.proofs.lemmas.Grind.{common_steps}
+use Rattle.std.proofs.Common.{arith}
+use Rattle.hir_lower_builder.specs.Ranges.{literal_limit_form}
+use Rattle.hir_lower_type.proofs.limits.literal_side.Goals as goal
+
+pub returns : goal.returns
+unfolding literal_limit_form
+returns g c = grind (arith, common_steps)

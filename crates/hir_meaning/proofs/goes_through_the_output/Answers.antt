@@ -1,5 +1,0 @@
-use Rattle.hir_meaning.proofs.Tries.{goes_through_the_output as proved}
-use Rattle.hir_meaning.proofs.goes_through_the_output.Goals as goal
-
-pub returns : goal.returns
-returns c = proved

@@ -1,5 +1,0 @@
-use Rattle.hir_meaning.proofs.ReadParts.{begins_at_the_local_root as proved}
-use Rattle.hir_meaning.proofs.reading.begins_at_the_local_root.Goals as goal
-
-pub returns : goal.returns
-returns c = proved

@@ -1,5 +1,0 @@
-use Rattle.hir_meaning.proofs.CoroutineClosures.{strays_from_its_coroutine_closure as proved}
-use Rattle.hir_meaning.proofs.strays_from_its_coroutine_closure.Goals as goal
-
-pub returns : goal.returns
-returns c = proved

@@ -1,5 +1,0 @@
-use Rattle.hir_meaning.proofs.ReadTargets.{ignores_through_calls as proved}
-use Rattle.hir_meaning.proofs.targets.ignores_through_calls.Goals as goal
-
-pub returns : goal.returns
-returns c = proved

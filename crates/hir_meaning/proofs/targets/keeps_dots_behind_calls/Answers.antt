@@ -1,5 +1,0 @@
-use Rattle.hir_meaning.proofs.ReadTargets.{keeps_dots_behind_calls as proved}
-use Rattle.hir_meaning.proofs.targets.keeps_dots_behind_calls.Goals as goal
-
-pub returns : goal.returns
-returns c = proved

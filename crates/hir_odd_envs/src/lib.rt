@@ -1,7 +1,0 @@
-//! Environments that no table is, for tests.
-#![tactic(auto)]
-
-pub mod cyclic;
-pub mod endless;
-pub mod lacking;
-pub mod one_module;

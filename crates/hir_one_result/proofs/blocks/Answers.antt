@@ -1,5 +1,0 @@
-use Rattle.hir_one_result.proofs.TreeBlocks.{blocks_are}
-use Rattle.hir_one_result.proofs.blocks.Goals as goal
-
-pub returns : goal.returns
-returns c = blocks_are

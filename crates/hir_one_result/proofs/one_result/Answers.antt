@@ -1,5 +1,0 @@
-use Rattle.hir_one_result.proofs.Whole.{one_results}
-use Rattle.hir_one_result.proofs.one_result.Goals as goal
-
-pub returns : goal.returns
-returns c = one_results

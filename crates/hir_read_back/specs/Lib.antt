@@ -1,3 +1,0 @@
-pub mod Yields
-pub mod Laws
-pub mod Asked

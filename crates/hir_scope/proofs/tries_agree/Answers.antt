@@ -1,5 +1,0 @@
-use Rattle.hir_scope.proofs.Ribs.{tries_agree as proved}
-use Rattle.hir_scope.proofs.tries_agree.Goals as goal
-
-pub returns : goal.returns
-returns c = proved

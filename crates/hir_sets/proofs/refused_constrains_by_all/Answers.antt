@@ -1,5 +1,0 @@
-use Rattle.hir_sets.proofs.Worked.{refused_constrains_by_all as proved}
-use Rattle.hir_sets.proofs.refused_constrains_by_all.Goals as goal
-
-pub returns : goal.returns
-returns c = proved

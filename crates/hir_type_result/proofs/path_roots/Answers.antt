@@ -1,5 +1,0 @@
-use Rattle.hir_type_result.proofs.Behind.{path_roots as proved}
-use Rattle.hir_type_result.proofs.path_roots.Goals as goal
-
-pub returns : goal.returns
-returns c = proved

@@ -1,5 +1,0 @@
-use Rattle.hir_type_result.proofs.Whole.{refused_types as proved}
-use Rattle.hir_type_result.proofs.refused_types.Goals as goal
-
-pub returns : goal.returns
-returns c = proved

@@ -1,0 +1,11 @@
+pub mod Digits
+pub mod Pairs
+pub mod Items
+pub mod DataSet
+pub mod Sides
+pub mod Using
+pub mod Cells
+pub mod Beside
+pub mod Entries
+pub mod AliasPairs
+pub mod ByLength

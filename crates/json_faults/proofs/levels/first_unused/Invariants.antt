@@ -1,9 +1,0 @@
-use Rattle.std.proofs.Common.{◌≡◌, drop}
-use Rattle.json_faults.specs.Levels.{first_unused}
-use Rattle.json_faults.proofs.levels.first_unused.Given as goal
-
-abbrev pub invariant-loop-level : goal.invariant-loop-level
-invariant-loop-level l = record {
-  place : l.at ≡ l.level-index;
-  so_far : first_unused 0 l.levels ≡ first_unused l.at (drop l.level-index l.levels);
-}

@@ -1,0 +1,5 @@
+use Rattle.spec_semantics.proofs.CoroutineClosures.{misses_its_body as proved}
+use Rattle.spec_semantics.proofs.misses_its_body.Goals as goal
+
+pub returns : goal.returns
+returns c = proved

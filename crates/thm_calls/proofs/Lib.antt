@@ -1,0 +1,7 @@
+mod Framed
+mod Lasting
+mod Listed
+mod Promised
+mod Owners
+mod Ruled
+mod Outside

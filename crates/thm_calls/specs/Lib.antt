@@ -1,0 +1,6 @@
+pub mod Readings
+pub mod Promises
+pub mod Frames
+pub mod ByRules
+pub mod ByList
+pub mod Outside

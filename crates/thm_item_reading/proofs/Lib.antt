@@ -1,0 +1,4 @@
+mod Parts
+pub mod Items
+pub mod Alone
+pub mod One

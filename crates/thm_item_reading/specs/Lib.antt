@@ -1,0 +1,4 @@
+pub mod LowerCtx
+pub mod Rules
+pub mod Theorems
+pub mod OneItem

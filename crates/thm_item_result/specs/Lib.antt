@@ -1,0 +1,16 @@
+pub mod Parts
+pub mod Items
+pub mod Exceeding
+pub mod Sizes
+pub mod Fits
+pub mod Roots
+pub mod Emitted
+pub mod Stored
+pub mod ItemResult
+pub mod Answers
+pub mod Words
+pub mod Apart
+pub mod Numbers
+pub mod Once
+pub mod Inside
+pub mod Examples

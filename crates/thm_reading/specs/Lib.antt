@@ -1,0 +1,9 @@
+pub mod LowerCtx
+pub mod Shapes
+pub mod Targets
+pub mod Rules
+pub mod Formals
+pub mod Theorems
+pub mod Conditions
+pub mod Decided
+pub mod OneTree

@@ -1,0 +1,12 @@
+pub mod Codec
+pub mod Numbers
+pub mod Words
+pub mod Arguments
+pub mod Paths
+pub mod Types
+pub mod Pats
+pub mod Exprs
+pub mod Maps
+pub mod Params
+pub mod Whole
+pub mod Results

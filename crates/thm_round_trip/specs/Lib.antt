@@ -1,0 +1,3 @@
+pub mod Yields
+pub mod Theorems
+pub mod Asked

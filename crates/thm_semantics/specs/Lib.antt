@@ -1,0 +1,4 @@
+pub mod Functions
+pub mod Headline
+pub mod Reached
+pub mod Examples

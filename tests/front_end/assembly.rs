@@ -1,0 +1,1 @@
+fn f() { builtin # asm("a"); b; builtin # asm("c") }

@@ -1,0 +1,1 @@
+fn f() { let b: Box<for<'a> G<'a> + H> = c; }

@@ -1,0 +1,1 @@
+fn f() { |a, b: T| -> C { d }; move || yield; static || e; async move |f| g }

@@ -1,0 +1,1 @@
+fn f() -> R { 'a: for b in c? { continue 'a } }

@@ -1,0 +1,1 @@
+fn f() { for in y {} }

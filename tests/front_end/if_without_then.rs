@@ -1,0 +1,1 @@
+fn f() { if a else if b {} c }

@@ -1,0 +1,1 @@
+extern "C" { fn f(a: B, mut c: D, ...); static S: T; }

@@ -1,0 +1,1 @@
+fn f() { 'a: { break 'a }; unsafe { b }; 'c: unsafe { break 'c } }

@@ -1,0 +1,1 @@
+fn f() { (, a); let (, b) = c; let S(, d) = e; }

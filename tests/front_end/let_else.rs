@@ -1,0 +1,1 @@
+fn f() { let Some(a) = b else { return }; }

@@ -1,0 +1,1 @@
+fn f() where T: A<b(..): C>, T::d(..): E {}

@@ -1,0 +1,1 @@
+#[rust_analyzer::skip] fn f(a: B) { c }

@@ -1,0 +1,1 @@
+fn f() { a; { b } if c { d } e }

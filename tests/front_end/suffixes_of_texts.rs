@@ -1,0 +1,1 @@
+fn f() { ('c'u32, b'b'x, "s"y, b"t"z, c"u"w, r"v"q) }

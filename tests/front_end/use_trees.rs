@@ -1,0 +1,2 @@
+use a::{self, b::{c, d as e}, ::f, *};
+use {g, crate::h};

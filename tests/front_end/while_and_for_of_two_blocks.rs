@@ -1,0 +1,1 @@
+fn f() { while { a } { b } for c in { d } { e } }

@@ -1,0 +1,1 @@
+fn f() { while let Some(a) = b { a } }
