@@ -175,7 +175,8 @@ impl<'a> Visitor<'a> {
 
     /// Goes on until the list is empty.
     fn go_on(&mut self, root: TypeRefId) -> Result<(), AllocError>
-        requires placed { (name : NameValue) → place_of_name self.old.places name ≡ place_of self.old.lowered.now.generic_params.lifetimes name }
+        requires placed { (name : NameValue) → place_of_name self.old.places name
+            ≡ place_of self.old.lowered.now.generic_params.lifetimes name }
         requires sound { SoundIn self.old.lowered.now.store self.old.lowered.now.generic_params.lifetimes root self.old.tracks }
         ensures same { IfOk result (λ _. self.new.lowered ≡ self.old.lowered) }
         ensures emitted { IfOk result (λ _. Flags self.old.lowered.now.store self.old.lowered.now.generic_params (Some root)

@@ -1,5 +1,5 @@
 use Rattle.spec_semantics.proofs.CoroutineClosures.{hands_in_by_name as proved}
-use Rattle.spec_semantics.proofs.hands_in_by_name.Goals as goal
+use Rattle.spec_semantics.proofs.inner_bodies.hands_in_by_name.Goals as goal
 
 pub returns : goal.returns
 returns c = proved
