@@ -116,3 +116,42 @@ impl AskOfDocument for AbsentType {
 fn an_absent_type_has_no_node(rt: HostRuntime) {
     assert!(rt; said_of(rt.alloc(), Root::Path, EMPTY, &AbsentType) == Said::Own);
 }
+
+/// Types of one store, as those of a struct's fields: `impl B` as an error and as it stands, and one that is absent.
+#[test]
+fn types_are_lowered_one_after_another(rt: HostRuntime) {
+    let alloc = rt.alloc();
+    let one = Script {
+        limit: 1,
+        calls: &[(Call::Type, Ok(true))],
+        holds: Holds::Types(1, "type {error}\n"),
+    };
+    assert!(rt; said_of_calls(alloc, IMPL_IN_A_PATH, &one) == Said::Own);
+    let three = Script {
+        limit: 3,
+        calls: &[(Call::Type, Ok(true)), (Call::OpaqueType, Ok(true))],
+        holds: Holds::Types(3, "type impl B\n"),
+    };
+    assert!(rt; said_of_calls(alloc, IMPL_IN_A_PATH, &three) == Said::Own);
+    let absent = Script {
+        limit: 1,
+        calls: &[(Call::Type, Ok(true))],
+        holds: Holds::Types(1, "type {error}\n"),
+    };
+    assert!(rt; said_of_calls(alloc, EMPTY, &absent) == Said::Own);
+}
+
+/// There is room for two types; the error and the path of the bound take it, so the `impl` does not fit.
+#[test]
+fn a_type_does_not_fit_behind_others(rt: HostRuntime) {
+    let script = Script {
+        limit: 2,
+        calls: &[
+            (Call::Type, Ok(true)),
+            (Call::OpaqueType, Err(LowerError::Full)),
+            (Call::Type, Err(LowerError::Failed)),
+        ],
+        holds: Holds::Failed { exprs: Some(0) },
+    };
+    assert!(rt; said_of_calls(rt.alloc(), IMPL_IN_A_PATH, &script) == Said::Own);
+}
