@@ -5,18 +5,23 @@ ghost use Rattle.serde_json.specs.View.{view};
 ghost use Rattle.lower_run.specs.Answers.{CameOf};
 ghost use Rattle.lower_lines.specs.Answers.{came_of, fault_data, SaysWhatCame, IsLineOf};
 
+use crate::call::Form;
 use crate::place::{Place, place_in};
+use crate::result::result_text;
 use lower_json::fault::Fault;
 use lower_run::failure::Failure;
+use lower_run::lowered::Lowered;
 use lower_run::mode::Mode;
-use lower_run::run::listing_among_many;
+use lower_run::run::{listing_among_many, lowered_among_many};
 use serde_json::{Value, json};
 use std::alloc::{AllocError, Global};
 
-/// What is answered to a document. Another form of a result, as the whole of it in JSON, is a variant of its own here.
+/// What is answered to a document.
 #[derive(Drop)]
 pub enum Answer {
     Listing(String),
+    /// All that it is lowered to.
+    Lowered(Lowered),
     /// Why there is none, and where a text stops being JSON.
     Fault(Failure, Option<Place>),
 }
@@ -25,27 +30,48 @@ pub enum Answer {
 pub const REFUSED: &str = "{\"fault\":{\"status\":3,\"text\":\"refused: memory\"}}\n";
 
 impl Answer {
-    /// What is answered to the document that a line is in a mode.
-    pub fn of(alloc: Global, mode: Mode, line: &[u8]) -> Answer
-        ensures { CameOf mode line.now (came_of result) }
-    {
-        match listing_among_many(alloc, mode, line) {
-            Ok(listing) => Answer::Listing(listing),
-            Err(Failure::Document(Fault::NotJson)) => {
+    /// What is answered to a document that isn't lowered.
+    fn of_failure(alloc: Global, line: &[u8], failure: Failure) -> Answer {
+        match failure {
+            Failure::Document(Fault::NotJson) => {
                 Answer::Fault(Failure::Document(Fault::NotJson), place_in(alloc, line))
             }
-            Err(failure) => Answer::Fault(failure, None),
+            failure => Answer::Fault(failure, None),
         }
     }
 
-    fn json(&self, alloc: Global) -> Result<Value, AllocError>
-        ensures { IfOk result (λ v. SaysWhatCame (came_of self.now) (view v)) }
+    /// What is answered to the document that a line is in a mode.
+    pub fn of(alloc: Global, mode: Mode, form: Form, line: &[u8]) -> Answer
+        ensures { CameOf mode line.now (came_of result) }
     {
+        let done = match form {
+            Form::Listing => listing_among_many(alloc, mode, line).map(Answer::Listing),
+            Form::Json => lowered_among_many(alloc, mode, line).map(Answer::Lowered),
+        };
+        match done {
+            Ok(answer) => answer,
+            Err(failure) => Answer::of_failure(alloc, line, failure),
+        }
+    }
+
+    /// The status with which a single call for the document ends.
+    pub fn status(&self) -> u8 {
         match self {
-            Answer::Listing(listing) => json!(in alloc; {"ok": listing.as_str()}),
+            Answer::Listing(_) | Answer::Lowered(_) => 0,
+            Answer::Fault(failure, _) => failure.status(),
+        }
+    }
+
+    /// The answer as JSON.
+    fn text(&self, alloc: Global) -> Result<String, AllocError> {
+        match self {
+            Answer::Listing(listing) => {
+                json!(in alloc; {"ok": listing.as_str()})?.to_string(alloc)
+            }
+            Answer::Lowered(lowered) => result_text(alloc, lowered),
             Answer::Fault(failure, place) => {
                 let text = format!(in alloc; "{}", failure)?;
-                fault_json(alloc, failure.status(), text.as_str(), *place)
+                fault_json(alloc, failure.status(), text.as_str(), *place)?.to_string(alloc)
             }
         }
     }
@@ -54,7 +80,7 @@ impl Answer {
     pub fn line(&self, alloc: Global) -> Result<String, AllocError>
         ensures { IfOk result (λ s. IsLineOf (came_of self.now) (string_bytes s)) }
     {
-        let mut line = self.json(alloc)?.to_string(alloc)?;
+        let mut line = self.text(alloc)?;
         line.push_str("\n")?;
         Ok(line)
     }

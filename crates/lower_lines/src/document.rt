@@ -1,0 +1,49 @@
+//! One document, which all of an input is.
+
+use crate::answer::{Answer, REFUSED};
+use crate::call::Form;
+use crate::lines::send;
+use lower_run::failure::Failure;
+use lower_run::input::read_all;
+use lower_run::mode::Mode;
+use std::alloc::Global;
+use std::io::{Read, Write};
+
+/// Answers a document with all that it is lowered to, and answers the status with which a single call for it ends.
+fn answer_document<O: Write>(
+    alloc: Global,
+    mode: Mode,
+    text: &[u8],
+    out: &mut O,
+) -> Result<u8, Failure> {
+    let answer = Answer::of(alloc, mode, Form::Json, text);
+    match answer.line(alloc) {
+        Ok(line) => {
+            send(out, line.as_str())?;
+            Ok(answer.status())
+        }
+        Err(_) => {
+            send(out, REFUSED)?;
+            Ok(Failure::Memory.status())
+        }
+    }
+}
+
+/// Answers the document that all of an input is, as a line among many is answered, and answers the status with which lower_tool ends for it:
+/// 0, or 2 where the document is wrong or a read or a write failed, or 3 where memory was refused or an arena was full.
+pub fn lower_document<R: Read, O: Write, X: Write>(
+    alloc: Global,
+    mode: Mode,
+    input: &mut R,
+    out: &mut O,
+    errors: &mut X,
+) -> u8 {
+    let done = match read_all(alloc, input) {
+        Ok(text) => answer_document(alloc, mode, text.as_slice(), out),
+        Err(failure) => Err(failure),
+    };
+    match done {
+        Ok(status) => status,
+        Err(failure) => failure.report(errors),
+    }
+}
