@@ -5,8 +5,6 @@ ghost use Rattle.lower_c.specs.Answers.{Answers, mode_of};
 
 mod border;
 mod modes;
-#[cfg(test)]
-mod tests;
 
 use crate::border::hand_over_result;
 use crate::modes::{lower, mode_with};
