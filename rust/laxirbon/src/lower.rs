@@ -61,8 +61,10 @@ const TOO_SHORT: u32 = 4;
 
 /// How much stack a document may take. Only one with a table `macros` has nested macro calls. Its name may be written with escapes.
 fn stack_for(document: &[u8]) -> usize {
-    let has = |text: &[u8]| document.windows(text.len()).any(|found| found == text);
-    if has(b"\"macros\"") || has(b"\\u") { STACK_OF_MACROS } else { STACK }
+    match str::from_utf8(document) {
+        Ok(text) if text.contains("\"macros\"") || text.contains("\\u") => STACK_OF_MACROS,
+        _ => STACK,
+    }
 }
 
 /// Calls this with so much stack: here if there is enough, else in a thread of its own.
