@@ -70,12 +70,12 @@ pub enum ExpressionStoreDiagnostics {
 }
 
 kinds!(ExpressionStoreDiagnostics {
-    InactiveCode { node, cfg },
-    UnreachableLabel { node, name },
-    UndeclaredLabel { node, name },
+    InactiveCode { cfg, node },
+    UnreachableLabel { name, node },
+    UndeclaredLabel { name, node },
     UnresolvedMacroCall { node, path },
-    AwaitOutsideOfAsync { node, location },
-    MissingBody { node, kind },
+    AwaitOutsideOfAsync { location, node },
+    MissingBody { kind, node },
     FruInDestructuringAssignment { node },
     PatternArgInExternFn { node },
 });

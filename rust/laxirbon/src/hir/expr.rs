@@ -16,7 +16,7 @@ pub struct Literal {
     pub suffix: Option<String>,
 }
 
-record!(Literal { negative, kind, text, suffix });
+record!(Literal { kind, negative, suffix, text });
 
 /// A label, written or made.
 #[derive(Clone, Debug, PartialEq, Eq, Hash)]
@@ -59,7 +59,7 @@ pub enum Statement {
 }
 
 kinds!(Statement {
-    Let { pat, type_ref, initializer, else_branch },
+    Let { else_branch, initializer, pat, type_ref },
     Expr { expr, has_semi },
     Item,
     MacroDef(id),
@@ -73,7 +73,7 @@ pub struct MatchArm {
     pub expr: ExprId,
 }
 
-record!(MatchArm { pat, guard, expr });
+record!(MatchArm { expr, guard, pat });
 
 /// A field of a record expression.
 #[derive(Clone, Debug, PartialEq, Eq, Hash)]
@@ -82,7 +82,7 @@ pub struct RecordLitField {
     pub expr: ExprId,
 }
 
-record!(RecordLitField { name, expr });
+record!(RecordLitField { expr, name });
 
 /// What the other fields of a record expression come from: nothing, their defaults (`..`), or a record (`..r`).
 #[derive(Clone, Copy, Debug, PartialEq, Eq, Hash)]
@@ -298,26 +298,26 @@ pub enum Expr {
 
 kinds!(Expr {
     Missing,
-    Path { path, hygiene },
-    If { condition, then_branch, else_branch },
-    Let { pat, expr },
-    Block { is_unsafe, label, id, statements, tail },
+    Path { hygiene, path },
+    If { condition, else_branch, then_branch },
+    Let { expr, pat },
+    Block { id, is_unsafe, label, statements, tail },
     Const(expr),
     Loop { body, label, source },
-    Call { callee, args },
-    Match { expr, arms },
+    Call { args, callee },
+    Match { arms, expr },
     Continue { label },
-    Break { label, expr },
+    Break { expr, label },
     Literal[Literal],
-    MethodCall { receiver, method_name, generic_args, args },
-    RecordLit { path, fields, spread },
+    MethodCall { args, generic_args, method_name, receiver },
+    RecordLit { fields, path, spread },
     Field { expr, name },
-    UnaryOp { op, expr },
-    BinaryOp { op, lhs, rhs },
+    UnaryOp { expr, op },
+    BinaryOp { lhs, op, rhs },
     Assignment { target, value },
     Index { base, index },
-    Ref { rawness, mutability, expr },
-    Closure { args, arg_types, ret_type, body, closure_kind, capture_by },
+    Ref { expr, mutability, rawness },
+    Closure { arg_types, args, body, capture_by, closure_kind, ret_type },
     Tuple { exprs },
     Array = "Array" | "Repeat" [Array],
     Return { expr },

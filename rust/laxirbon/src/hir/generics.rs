@@ -27,7 +27,7 @@ pub struct TypeParamData {
     pub provenance: TypeParamProvenance,
 }
 
-record!(TypeParamData { name, default, provenance });
+record!(TypeParamData { default, name, provenance });
 
 /// A constant parameter.
 #[derive(Clone, Debug, PartialEq, Eq, Hash)]
@@ -37,7 +37,7 @@ pub struct ConstParamData {
     pub default: Option<ConstRef>,
 }
 
-record!(ConstParamData { name, ty, default });
+record!(ConstParamData { default, name, ty });
 
 /// A type or a constant parameter. The two are counted together.
 #[derive(Clone, Debug, PartialEq, Eq, Hash)]
@@ -77,7 +77,7 @@ pub struct LifetimeParamData {
     pub bound_type: LifetimeBoundType,
 }
 
-record!(LifetimeParamData { name, bound_type });
+record!(LifetimeParamData { bound_type, name });
 
 /// What is required of a type or a lifetime.
 #[derive(Clone, Debug, PartialEq, Eq, Hash)]
@@ -86,7 +86,7 @@ pub enum WherePredicate {
     Lifetime { target: LifetimeRefId, bound: LifetimeRefId },
 }
 
-kinds!(WherePredicate { TypeBound { lifetimes, target, bound }, Lifetime { target, bound } });
+kinds!(WherePredicate { TypeBound { bound, lifetimes, target }, Lifetime { bound, target } });
 
 /// The generic parameters of an item, each sort in the order in which it is written, and what is required of types and lifetimes.
 #[derive(Clone, Debug, PartialEq, Eq, Hash)]
@@ -97,7 +97,7 @@ pub struct GenericParams {
     pub where_predicates: Vec<WherePredicate>,
 }
 
-record!(GenericParams { early_bound_lifetimes_len, type_or_consts, lifetimes, where_predicates });
+record!(GenericParams { early_bound_lifetimes_len, lifetimes, type_or_consts, where_predicates });
 
 impl GenericParams {
     /// The index of a trait's `Self`, which is the first parameter.

@@ -100,4 +100,4 @@ pub struct TypeParamId {
     pub local_id: LocalTypeOrConstParamId,
 }
 
-record!(TypeParamId { parent, local_id });
+record!(TypeParamId { local_id, parent });

@@ -45,7 +45,7 @@ pub struct Binding {
     pub problems: Option<BindingProblems>,
 }
 
-record!(Binding { name, mode, hygiene, problems });
+record!(Binding { hygiene, mode, name, problems });
 
 /// A field of a record pattern.
 #[derive(Clone, Debug, PartialEq, Eq, Hash)]
@@ -121,17 +121,17 @@ kinds!(Pat {
     Rest,
     NotNull,
     Bind { id, subpat },
-    Path { path, hygiene },
-    TupleStruct { path, ellipsis, args },
-    Tuple { ellipsis, args },
-    Record { path, args, ellipsis },
+    Path { hygiene, path },
+    TupleStruct { args, ellipsis, path },
+    Tuple { args, ellipsis },
+    Record { args, ellipsis, path },
     Or(pats),
     Slice { prefix, slice, suffix },
     Ref { mutability, pat },
     Box { inner },
     Deref { inner },
     Lit(expr),
-    Range { op, start, end },
+    Range { end, op, start },
     Expr(expr),
 });
 

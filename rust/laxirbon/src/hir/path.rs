@@ -59,10 +59,11 @@ impl Path {
 
 impl FromJson for NormalPath {
     fn from_json(value: Value<'_>, sizes: &Sizes) -> Result<NormalPath, ReadError> {
+        let mut members = value.members()?;
         Ok(NormalPath {
-            type_anchor: value.read("type_anchor", sizes)?,
+            generic_args: members.read("generic_args", sizes)?,
             mod_path: ModPath::from_json(value, sizes)?,
-            generic_args: value.read("generic_args", sizes)?,
+            type_anchor: members.read("type_anchor", sizes)?,
         })
     }
 }

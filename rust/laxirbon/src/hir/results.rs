@@ -20,7 +20,8 @@ pub struct Param<T> {
 
 impl<T: FromJson> FromJson for Param<T> {
     fn from_json(value: Value<'_>, sizes: &Sizes) -> Result<Param<T>, ReadError> {
-        Ok(Param { formal: value.read("formal", sizes)?, user_written: value.read("user_written", sizes)? })
+        let mut members = value.members()?;
+        Ok(Param { formal: members.read("formal", sizes)?, user_written: members.read("user_written", sizes)? })
     }
 }
 
@@ -41,7 +42,7 @@ pub struct Body {
     pub self_node: Option<InFile<AstPtr>>,
 }
 
-record!(Body { store, source_map, params, self_param, self_node });
+record!(Body { params, self_node, self_param, source_map, store });
 
 impl Body {
     /// The expression that the body is: a missing one, if none is written. A result of the library has one.
@@ -58,7 +59,7 @@ pub struct LoweredPath {
     pub path: Option<Path>,
 }
 
-record!(LoweredPath { store, source_map, path });
+record!(LoweredPath { path, source_map, store });
 
 /// A type by itself.
 #[derive(Clone, Debug, PartialEq, Eq)]
@@ -68,7 +69,7 @@ pub struct LoweredType {
     pub type_ref: TypeRefId,
 }
 
-record!(LoweredType { store, source_map, type_ref });
+record!(LoweredType { source_map, store, type_ref });
 
 /// The signature of a function.
 #[derive(Clone, Debug, PartialEq, Eq)]
@@ -82,19 +83,19 @@ pub struct FunctionSignature {
     pub has_variadic: bool,
 }
 
-record!(FunctionSignature { store, source_map, generic_params, args, ret, has_self, has_variadic });
+record!(FunctionSignature { args, generic_params, has_self, has_variadic, ret, source_map, store });
 
 /// How many entries each arena of a result has.
 fn sizes(result: Value<'_>) -> Result<Sizes, ReadError> {
-    let store = result.member("store")?;
-    let count = |key| Ok::<usize, ReadError>(store.member(key)?.items()?.count());
+    let mut store = result.member("store")?.members()?;
+    let mut count = |key| Ok::<usize, ReadError>(store.member(key)?.items()?.count());
     Ok(Sizes {
-        exprs: count("exprs")?,
-        pats: count("pats")?,
         bindings: count("bindings")?,
+        exprs: count("exprs")?,
         labels: count("labels")?,
-        types: count("types")?,
         lifetimes: count("lifetimes")?,
+        pats: count("pats")?,
+        types: count("types")?,
     })
 }
 
@@ -103,7 +104,7 @@ fn read<T: FromJson>(text: &str) -> Result<T, ReadError> {
     let tape = Tape::new(text)?;
     let result = tape.root();
     let format = result.member("format")?;
-    if format.as_u64() != Some(u64::from(FORMAT)) {
+    if format.as_u32() != Some(FORMAT) {
         return Err(format.error(Problem::Format));
     }
     T::from_json(result, &sizes(result)?)

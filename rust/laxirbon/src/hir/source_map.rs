@@ -68,7 +68,7 @@ pub struct ExpandedCall {
     pub file: HirFileId,
 }
 
-record!(ExpandedCall { call, range, file });
+record!(ExpandedCall { call, file, range });
 
 /// From syntax nodes to what they became and back, with the expansions and the diagnostics.
 #[derive(Clone, Debug, Default, PartialEq, Eq)]
@@ -93,23 +93,23 @@ pub struct ExpressionStoreSourceMap {
 }
 
 record!(ExpressionStoreSourceMap {
+    binding_definitions,
+    block_scopes,
+    diagnostics,
+    expansions,
     expr_map,
     expr_sources,
+    field_map_back,
+    label_map,
+    label_sources,
+    lifetime_map,
+    lifetime_sources,
+    pat_field_map_back,
     pat_map,
     pat_sources,
     target_map,
-    label_map,
-    label_sources,
-    types_map,
     type_sources,
-    lifetime_map,
-    lifetime_sources,
-    binding_definitions,
-    field_map_back,
-    pat_field_map_back,
-    block_scopes,
-    expansions,
-    diagnostics,
+    types_map
 });
 
 /// The source of an entry, if it has one.

@@ -18,19 +18,19 @@ pub struct ExprRoot {
 }
 
 /// Where entries end may be the end of all.
-fn end(value: Value<'_>, key: &'static str, count: usize) -> Result<u32, ReadError> {
-    let member = value.member(key)?;
-    let end = u32::from_json(member, &Sizes::default())?;
-    if end as usize <= count { Ok(end) } else { Err(member.error(Problem::OutOfRange)) }
+fn end(value: Value<'_>, count: usize) -> Result<u32, ReadError> {
+    let end = u32::from_json(value, &Sizes::default())?;
+    if end as usize <= count { Ok(end) } else { Err(value.error(Problem::OutOfRange)) }
 }
 
 impl FromJson for ExprRoot {
     fn from_json(value: Value<'_>, sizes: &Sizes) -> Result<ExprRoot, ReadError> {
+        let mut members = value.members()?;
         Ok(ExprRoot {
-            root: value.read("root", sizes)?,
-            exprs_end: ExprId::from_raw(end(value, "exprs_end", sizes.exprs)?),
-            pats_end: PatId::from_raw(end(value, "pats_end", sizes.pats)?),
-            bindings_end: BindingId::from_raw(end(value, "bindings_end", sizes.bindings)?),
+            bindings_end: BindingId::from_raw(end(members.member("bindings_end")?, sizes.bindings)?),
+            exprs_end: ExprId::from_raw(end(members.member("exprs_end")?, sizes.exprs)?),
+            pats_end: PatId::from_raw(end(members.member("pats_end")?, sizes.pats)?),
+            root: members.read("root", sizes)?,
         })
     }
 }
@@ -67,7 +67,7 @@ pub struct ExpressionStore {
     roots: Vec<ExprRoot>,
 }
 
-record!(ExpressionStore { exprs, pats, bindings, labels, types, lifetimes, binding_owners, roots });
+record!(ExpressionStore { binding_owners, bindings, exprs, labels, lifetimes, pats, roots, types });
 
 impl ExpressionStore {
     pub fn exprs(&self) -> &Arena<Expr> {

@@ -93,7 +93,7 @@ pub struct ArrayType {
     pub len: ConstRef,
 }
 
-record!(ArrayType { ty, len });
+record!(ArrayType { len, ty });
 
 /// `&'a mut T`.
 #[derive(Clone, Copy, Debug, PartialEq, Eq, Hash)]
@@ -103,7 +103,7 @@ pub struct RefType {
     pub mutability: Mutability,
 }
 
-record!(RefType { ty, lifetime, mutability });
+record!(RefType { lifetime, mutability, ty });
 
 /// The ABI of a function pointer. One that isn't written is `Rust`, one of another text `C`.
 #[derive(Clone, Copy, Debug, PartialEq, Eq, Hash)]
@@ -155,7 +155,7 @@ pub struct FnType {
     pub binder: Option<Vec<Name>>,
 }
 
-record!(FnType { params, names, is_varargs, is_unsafe, abi, binder });
+record!(FnType { abi, binder, is_unsafe, is_varargs, names, params });
 
 /// A type, whose parts stand in the same store.
 #[derive(Clone, Debug, PartialEq, Eq, Hash)]

@@ -1,6 +1,6 @@
 //! The traits of what has a form in JSON, and the forms of numbers, texts and lists.
 
-use super::{Members, Problem, ReadError, Value, Writer};
+use super::{Members, ObjectMembers, Problem, ReadError, Value, Writer};
 
 /// How many entries each arena of the store that is being read has, so that no id is past the end of its arena.
 #[derive(Clone, Copy, Default)]
@@ -34,9 +34,9 @@ pub(crate) trait HasKinds {
     const KINDS: &[&[&str]];
 }
 
-impl Value<'_> {
+impl ObjectMembers<'_> {
     /// What the member with this key is read as.
-    pub(crate) fn read<T: FromJson>(self, key: &'static str, sizes: &Sizes) -> Result<T, ReadError> {
+    pub(crate) fn read<T: FromJson>(&mut self, key: &'static str, sizes: &Sizes) -> Result<T, ReadError> {
         T::from_json(self.member(key)?, sizes)
     }
 }
@@ -55,8 +55,7 @@ impl ToJson for bool {
 
 impl FromJson for u32 {
     fn from_json(value: Value<'_>, _: &Sizes) -> Result<u32, ReadError> {
-        let number = value.as_u64().and_then(|number| u32::try_from(number).ok());
-        number.ok_or(value.error(Problem::Expected("a number of 32 bits")))
+        value.as_u32().ok_or(value.error(Problem::Expected("a number of 32 bits")))
     }
 }
 
@@ -102,7 +101,12 @@ impl<T: ToJson> ToJson for Option<T> {
 
 impl<T: FromJson> FromJson for Vec<T> {
     fn from_json(value: Value<'_>, sizes: &Sizes) -> Result<Vec<T>, ReadError> {
-        value.items()?.map(|item| T::from_json(item, sizes)).collect()
+        let items = value.items()?;
+        let mut list = Vec::with_capacity(items.clone().count());
+        for item in items {
+            list.push(T::from_json(item, sizes)?);
+        }
+        Ok(list)
     }
 }
 

@@ -1,6 +1,6 @@
 //! Macros that say which form a type has, for reading and for writing at once.
 
-/// A struct that is an object. Each field is a member of that name.
+/// A struct that is an object. Each field is a member of that name. They are found fastest in the order of their bytes.
 macro_rules! record {
     ($type:ident { $($field:ident),* $(,)? }) => {
         impl $crate::json::FromJson for $type {
@@ -8,7 +8,8 @@ macro_rules! record {
                 value: $crate::json::Value<'_>,
                 sizes: &$crate::json::Sizes,
             ) -> Result<$type, $crate::json::ReadError> {
-                Ok($type { $($field: value.read(stringify!($field), sizes)?),* })
+                let mut members = value.members()?;
+                Ok($type { $($field: members.read(stringify!($field), sizes)?),* })
             }
         }
 
@@ -37,10 +38,16 @@ macro_rules! kinds {
 
     (@read $value:ident $sizes:ident $type:ident $kind:ident) => { $type::$kind };
     (@read $value:ident $sizes:ident $type:ident $kind:ident { $($field:ident),* }) => {
-        $type::$kind { $($field: $value.read(stringify!($field), $sizes)?),* }
+        {
+            let mut members = $value.members()?;
+            $type::$kind { $($field: members.read(stringify!($field), $sizes)?),* }
+        }
     };
     (@read $value:ident $sizes:ident $type:ident $kind:ident ( $($part:ident),* )) => {
-        $type::$kind($($value.read(stringify!($part), $sizes)?),*)
+        {
+            let mut members = $value.members()?;
+            $type::$kind($(members.read(stringify!($part), $sizes)?),*)
+        }
     };
     (@read $value:ident $sizes:ident $type:ident $kind:ident [ $inner:ident ]) => {
         $type::$kind($crate::json::FromJson::from_json($value, $sizes)?)

@@ -11,6 +11,6 @@ mod writer;
 pub(crate) use form::HasKinds;
 pub(crate) use form::{FromJson, Record, Sizes, ToJson, with_kind};
 pub(crate) use kinds::{kinds, numbers, record, words};
+pub(crate) use reader::{ObjectMembers, Tape, Value};
 pub use reader::{Problem, ReadError};
-pub(crate) use reader::{Tape, Value};
 pub(crate) use writer::{Members, Writer};

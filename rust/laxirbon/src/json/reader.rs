@@ -64,13 +64,14 @@ enum Kind {
     Object,
 }
 
-/// A value: where it begins in the text, and where the value behind it and all in it stands in the list. A member of an object is two
-/// values, its key and what it has.
+/// A value of the list. The values in an array or an object follow it. A member of an object is two values, its key and what it has.
 #[derive(Clone, Copy, Debug)]
 struct Node {
     kind: Kind,
+    /// Where it begins in the text.
     start: u32,
-    next: u32,
+    /// Where it ends: in the list for an array and an object, in the text for others. The quote that ends a text isn't counted.
+    end: u32,
 }
 
 /// All values of a text.
@@ -85,12 +86,11 @@ impl<'t> Tape<'t> {
         if u32::try_from(text.len()).is_err() {
             return Err(ReadError { offset: 0, problem: Problem::TooLong });
         }
-        // A value takes 5 bytes of a result on average.
-        let nodes = Vec::with_capacity(text.len() / 5 + 1);
+        // Most values are numbers, keys or short texts: one takes 3 bytes and more.
+        let nodes = Vec::with_capacity(text.len() / 3 + 1);
         let mut parser = Parser { bytes: text.as_bytes(), at: 0, nodes };
         parser.value(LEVELS)?;
-        parser.skip_space();
-        if parser.at < text.len() {
+        if parser.peek_behind_space().is_some() {
             return Err(parser.error(Problem::NotJson));
         }
         Ok(Tape { text, nodes: parser.nodes })
@@ -117,10 +117,12 @@ impl Parser<'_> {
         self.bytes.get(self.at).copied()
     }
 
-    fn skip_space(&mut self) {
-        while matches!(self.peek(), Some(b' ' | b'\t' | b'\n' | b'\r')) {
+    /// The next byte that is no space, which isn't taken.
+    fn peek_behind_space(&mut self) -> Option<u8> {
+        while let Some(b' ' | b'\t' | b'\n' | b'\r') = self.peek() {
             self.at += 1;
         }
+        self.peek()
     }
 
     /// Takes this byte, if it is the next one.
@@ -130,19 +132,19 @@ impl Parser<'_> {
         found
     }
 
+    /// Takes this byte, which has to be the next one behind spaces.
     fn expect(&mut self, byte: u8) -> Result<(), ReadError> {
+        self.peek_behind_space();
         if self.take(byte) { Ok(()) } else { Err(self.error(Problem::NotJson)) }
     }
 
+    /// Adds a value that ends here. The numbers fit, since the text has fewer than 2^32 bytes.
     fn push(&mut self, kind: Kind, start: usize) {
-        // Both fit: the text has fewer than 2^32 bytes, and each value at least one of them.
-        let next = self.nodes.len() as u32 + 1;
-        self.nodes.push(Node { kind, start: start as u32, next });
+        self.nodes.push(Node { kind, start: start as u32, end: self.at as u32 });
     }
 
     fn value(&mut self, levels: u32) -> Result<(), ReadError> {
-        self.skip_space();
-        match self.peek() {
+        match self.peek_behind_space() {
             Some(b'{') => self.container(Kind::Object, b'}', levels),
             Some(b'[') => self.container(Kind::Array, b']', levels),
             Some(b'"') => self.string(),
@@ -161,31 +163,34 @@ impl Parser<'_> {
         let place = self.nodes.len();
         self.push(kind, self.at);
         self.at += 1;
-        self.skip_space();
-        if !self.take(end) {
-            loop {
-                if kind == Kind::Object {
-                    self.key()?;
-                }
-                self.value(levels)?;
-                self.skip_space();
-                if self.take(end) {
-                    break;
-                }
-                self.expect(b',')?;
-            }
+        if self.peek_behind_space() != Some(end) {
+            self.parts(kind, end, levels)?;
         }
-        self.nodes[place].next = self.nodes.len() as u32;
+        self.at += 1;
+        self.nodes[place].end = self.nodes.len() as u32;
         Ok(())
     }
 
+    /// The values in an array or an object, up to the byte that ends it.
+    fn parts(&mut self, kind: Kind, end: u8, levels: u32) -> Result<(), ReadError> {
+        loop {
+            if kind == Kind::Object {
+                self.key()?;
+            }
+            self.value(levels)?;
+            match self.peek_behind_space() {
+                Some(b',') => self.at += 1,
+                Some(byte) if byte == end => return Ok(()),
+                _ => return Err(self.error(Problem::NotJson)),
+            }
+        }
+    }
+
     fn key(&mut self) -> Result<(), ReadError> {
-        self.skip_space();
-        if self.peek() != Some(b'"') {
+        if self.peek_behind_space() != Some(b'"') {
             return Err(self.error(Problem::NotJson));
         }
         self.string()?;
-        self.skip_space();
         self.expect(b':')
     }
 
@@ -194,18 +199,19 @@ impl Parser<'_> {
         let mut kind = Kind::Plain;
         self.at += 1;
         loop {
+            let rest = &self.bytes[self.at..];
+            self.at += rest.iter().position(|byte| matches!(byte, b'"' | b'\\' | 0..0x20)).unwrap_or(rest.len());
             match self.peek() {
                 Some(b'"') => break,
                 Some(b'\\') => {
                     kind = Kind::Escaped;
                     self.escape()?;
                 }
-                Some(0x20..) => self.at += 1,
                 _ => return Err(self.error(Problem::NotJson)),
             }
         }
-        self.at += 1;
         self.push(kind, start);
+        self.at += 1;
         Ok(())
     }
 
@@ -224,8 +230,9 @@ impl Parser<'_> {
         if !self.bytes[self.at..].starts_with(word) {
             return Err(self.error(Problem::NotJson));
         }
-        self.push(kind, self.at);
+        let start = self.at;
         self.at += word.len();
+        self.push(kind, start);
         Ok(())
     }
 
@@ -238,7 +245,7 @@ impl Parser<'_> {
     }
 
     fn number(&mut self) -> Result<(), ReadError> {
-        self.push(Kind::Number, self.at);
+        let start = self.at;
         self.take(b'-');
         if !self.take(b'0') {
             self.digits()?;
@@ -250,6 +257,7 @@ impl Parser<'_> {
             let _ = self.take(b'+') || self.take(b'-');
             self.digits()?;
         }
+        self.push(Kind::Number, start);
         Ok(())
     }
 }
@@ -299,123 +307,152 @@ impl<'t> Value<'t> {
         self.tape.nodes[self.at as usize]
     }
 
-    /// The text from this value on.
-    fn rest(self) -> &'t str {
-        &self.tape.text[self.node().start as usize..]
-    }
-
-    fn at(self, at: u32) -> Value<'t> {
-        Value { at, ..self }
-    }
-
     /// The error that something is wrong here.
     pub(crate) fn error(self, problem: Problem) -> ReadError {
         ReadError { offset: self.node().start as usize, problem }
     }
 
-    fn is(self, kind: Kind) -> bool {
-        self.node().kind == kind
+    pub(crate) fn is_null(self) -> bool {
+        self.node().kind == Kind::Null
     }
 
-    pub(crate) fn is_null(self) -> bool {
-        self.is(Kind::Null)
+    /// Its bytes in the text, if it is neither an array nor an object.
+    fn bytes(self) -> &'t [u8] {
+        let Node { start, end, .. } = self.node();
+        &self.tape.text.as_bytes()[start as usize..end as usize]
     }
 
     pub(crate) fn as_bool(self) -> Option<bool> {
-        self.is(Kind::Bool).then(|| self.rest().starts_with('t'))
+        (self.node().kind == Kind::Bool).then(|| self.bytes() == b"true")
     }
 
-    /// The number that it is, if that is a whole one of 64 bits.
-    pub(crate) fn as_u64(self) -> Option<u64> {
-        if !self.is(Kind::Number) {
+    /// The number that it is, if that is a whole one of 32 bits.
+    pub(crate) fn as_u32(self) -> Option<u32> {
+        if self.node().kind != Kind::Number {
             return None;
         }
-        let rest = self.rest().as_bytes();
-        let end = rest.iter().position(|byte| !byte.is_ascii_digit()).unwrap_or(rest.len());
-        if matches!(rest.get(end), Some(b'.' | b'e' | b'E')) {
-            return None;
-        }
-        self.rest()[..end].parse().ok()
+        self.bytes().iter().try_fold(0_u32, |number, digit| {
+            let digit = char::from(*digit).to_digit(10)?;
+            number.checked_mul(10)?.checked_add(digit)
+        })
     }
 
     /// The text that it is, without its escapes.
     pub(crate) fn as_str(self) -> Option<Cow<'t, str>> {
-        match self.node().kind {
-            Kind::Plain => {
-                let text = &self.rest()[1..];
-                let end = text.find('"').unwrap_or(text.len());
-                Some(Cow::Borrowed(&text[..end]))
-            }
-            Kind::Escaped => Some(Cow::Owned(self.unescaped())),
+        let Node { kind, start, end } = self.node();
+        let text = || &self.tape.text[start as usize + 1..end as usize];
+        match kind {
+            Kind::Plain => Some(Cow::Borrowed(text())),
+            Kind::Escaped => Some(Cow::Owned(unescaped(text()))),
             _ => None,
         }
-    }
-
-    fn unescaped(self) -> String {
-        let mut left = &self.rest()[1..];
-        let mut text = String::new();
-        while let Some(stop) = left.find(['"', '\\']) {
-            text.push_str(&left[..stop]);
-            left = &left[stop..];
-            let Some((character, length)) = unescape(left.as_bytes()).filter(|_| left.starts_with('\\')) else {
-                break;
-            };
-            text.push(character);
-            left = &left[length..];
-        }
-        text
-    }
-
-    /// The values that stand in this one, one after another.
-    fn parts(self) -> impl Iterator<Item = Value<'t>> {
-        let (first, end) = (self.at + 1, self.node().next);
-        let mut next = first;
-        std::iter::from_fn(move || {
-            let part = (next < end).then(|| self.at(next))?;
-            next = part.node().next;
-            Some(part)
-        })
-    }
-
-    /// The items of an array.
-    pub(crate) fn items(self) -> Result<impl Iterator<Item = Value<'t>>, ReadError> {
-        if self.is(Kind::Array) { Ok(self.parts()) } else { Err(self.error(Problem::Expected("a list"))) }
-    }
-
-    /// As many items as the array has to have.
-    pub(crate) fn fixed<const N: usize>(self) -> Result<[Value<'t>; N], ReadError> {
-        let mut items = self.items()?;
-        let mut all = [self; N];
-        for one in &mut all {
-            *one = items.next().ok_or(self.error(Problem::Expected("a list of this length")))?;
-        }
-        match items.next() {
-            None => Ok(all),
-            Some(more) => Err(more.error(Problem::Expected("a list of this length"))),
-        }
-    }
-
-    /// The member with this key. Of several the last counts.
-    pub(crate) fn member(self, key: &'static str) -> Result<Value<'t>, ReadError> {
-        if !self.is(Kind::Object) {
-            return Err(self.error(Problem::Expected("an object")));
-        }
-        let mut parts = self.parts();
-        let mut found = None;
-        while let (Some(name), Some(value)) = (parts.next(), parts.next()) {
-            if name.is_text(key) {
-                found = Some(value);
-            }
-        }
-        found.ok_or(self.error(Problem::Missing(key)))
     }
 
     /// Whether it is this text.
     fn is_text(self, text: &str) -> bool {
         match self.node().kind {
-            Kind::Plain => self.rest()[1..].strip_prefix(text).is_some_and(|rest| rest.starts_with('"')),
-            Kind::Escaped => self.unescaped() == text,
+            Kind::Plain => &self.bytes()[1..] == text.as_bytes(),
+            Kind::Escaped => self.as_str().as_deref() == Some(text),
             _ => false,
         }
+    }
+
+    /// The values that stand in it, if it is an array or an object.
+    fn parts(self) -> Parts<'t> {
+        Parts { tape: self.tape, next: self.at + 1, end: self.node().end }
+    }
+
+    /// The items of an array.
+    pub(crate) fn items(self) -> Result<Parts<'t>, ReadError> {
+        if self.node().kind == Kind::Array { Ok(self.parts()) } else { Err(self.error(Problem::Expected("a list"))) }
+    }
+
+    /// The items of an array that has to have so many.
+    pub(crate) fn fixed<const N: usize>(self) -> Result<[Value<'t>; N], ReadError> {
+        let mut items = self.items()?;
+        let mut all = [self; N];
+        let wrong = || self.error(Problem::Expected("a list of this length"));
+        for place in &mut all {
+            *place = items.next().ok_or_else(wrong)?;
+        }
+        if items.next().is_none() { Ok(all) } else { Err(wrong()) }
+    }
+
+    /// The members of an object.
+    pub(crate) fn members(self) -> Result<ObjectMembers<'t>, ReadError> {
+        if self.node().kind != Kind::Object {
+            return Err(self.error(Problem::Expected("an object")));
+        }
+        Ok(ObjectMembers { object: self, left: self.parts() })
+    }
+
+    /// The member of an object with this key.
+    pub(crate) fn member(self, key: &'static str) -> Result<Value<'t>, ReadError> {
+        self.members()?.member(key)
+    }
+}
+
+/// The members of an object, which has each key once. They are searched from the last one on that was found: a search takes one step if it
+/// follows the order in which they are written.
+pub(crate) struct ObjectMembers<'t> {
+    object: Value<'t>,
+    left: Parts<'t>,
+}
+
+impl<'t> ObjectMembers<'t> {
+    /// The member with this key.
+    pub(crate) fn member(&mut self, key: &'static str) -> Result<Value<'t>, ReadError> {
+        if let Some(found) = self.next(key) {
+            return Ok(found);
+        }
+        self.left = self.object.parts();
+        self.next(key).ok_or(self.object.error(Problem::Missing(key)))
+    }
+
+    /// The next member with this key.
+    fn next(&mut self, key: &str) -> Option<Value<'t>> {
+        while let (Some(name), Some(value)) = (self.left.next(), self.left.next()) {
+            if name.is_text(key) {
+                return Some(value);
+            }
+        }
+        None
+    }
+}
+
+/// A text without its escapes.
+fn unescaped(text: &str) -> String {
+    let mut left = text;
+    let mut plain = String::with_capacity(text.len());
+    while let Some(stop) = left.find('\\') {
+        plain.push_str(&left[..stop]);
+        left = &left[stop..];
+        // The text was read, so each of its escapes is one.
+        let Some((character, length)) = unescape(left.as_bytes()) else { break };
+        plain.push(character);
+        left = &left[length..];
+    }
+    plain + left
+}
+
+/// Values that stand one after another in an array or an object.
+#[derive(Clone)]
+pub(crate) struct Parts<'t> {
+    tape: &'t Tape<'t>,
+    next: u32,
+    end: u32,
+}
+
+impl<'t> Iterator for Parts<'t> {
+    type Item = Value<'t>;
+
+    fn next(&mut self) -> Option<Value<'t>> {
+        if self.next >= self.end {
+            return None;
+        }
+        let part = Value { tape: self.tape, at: self.next };
+        let Node { kind, end, .. } = part.node();
+        self.next = if matches!(kind, Kind::Array | Kind::Object) { end } else { self.next + 1 };
+        Some(part)
     }
 }
