@@ -1,9 +1,10 @@
 //! What is answered to a document.
 
-ghost use Rattle.std.specs.Prelude.{◌≡◌, IfOk, string_bytes};
+ghost use Rattle.std.specs.Prelude.{◌≡◌, ℕ, List, Option, IfOk, string_bytes};
+ghost use Rattle.serde_json.specs.Data.{string};
 ghost use Rattle.serde_json.specs.View.{view};
-ghost use Rattle.lower_run.specs.Answers.{CameOf};
-ghost use Rattle.lower_lines.specs.Answers.{came_of, fault_data, SaysWhatCame, IsLineOf};
+ghost use Rattle.lower_run.specs.Statuses.{status_of};
+ghost use Rattle.lower_lines.specs.Answers.{IsAnswerTo, IsJson, IsLineOf, IsTextOf, fault_data, ok_data, status_of_answer};
 
 use crate::call::Form;
 use crate::place::{Place, place_in};
@@ -31,7 +32,9 @@ pub const REFUSED: &str = "{\"fault\":{\"status\":3,\"text\":\"refused: memory\"
 
 impl Answer {
     /// What is answered to a document that isn't lowered.
-    fn of_failure(alloc: Global, line: &[u8], failure: Failure) -> Answer {
+    fn of_failure(alloc: Global, line: &[u8], failure: Failure) -> Answer
+        ensures { (place : Option Place) × (result ≡ Answer.Fault failure place) }
+    {
         match failure {
             Failure::Document(Fault::NotJson) => {
                 Answer::Fault(Failure::Document(Fault::NotJson), place_in(alloc, line))
@@ -42,7 +45,7 @@ impl Answer {
 
     /// What is answered to the document that a line is in a mode.
     pub fn of(alloc: Global, mode: Mode, form: Form, line: &[u8]) -> Answer
-        ensures { CameOf mode line.now (came_of result) }
+        ensures { IsAnswerTo mode form line.now result }
     {
         let done = match form {
             Form::Listing => listing_among_many(alloc, mode, line).map(Answer::Listing),
@@ -55,7 +58,9 @@ impl Answer {
     }
 
     /// The status with which a single call for the document ends.
-    pub fn status(&self) -> u8 {
+    pub fn status(&self) -> u8
+        ensures { result ≡ status_of_answer self.now }
+    {
         match self {
             Answer::Listing(_) | Answer::Lowered(_) => 0,
             Answer::Fault(failure, _) => failure.status(),
@@ -63,27 +68,39 @@ impl Answer {
     }
 
     /// The answer as JSON.
-    fn text(&self, alloc: Global) -> Result<String, AllocError> {
+    fn text(&self, alloc: Global) -> Result<String, AllocError>
+        ensures { IfOk result (λ s. IsTextOf self.now (string_bytes s)) }
+    {
         match self {
-            Answer::Listing(listing) => {
-                json!(in alloc; {"ok": listing.as_str()})?.to_string(alloc)
-            }
+            Answer::Listing(listing) => listing_text(alloc, listing.as_str()),
             Answer::Lowered(lowered) => result_text(alloc, lowered),
-            Answer::Fault(failure, place) => {
-                let text = format!(in alloc; "{}", failure)?;
-                fault_json(alloc, failure.status(), text.as_str(), *place)?.to_string(alloc)
-            }
+            Answer::Fault(failure, place) => fault_text(alloc, failure, *place),
         }
     }
 
     /// The answer as a line of JSON.
     pub fn line(&self, alloc: Global) -> Result<String, AllocError>
-        ensures { IfOk result (λ s. IsLineOf (came_of self.now) (string_bytes s)) }
+        ensures { IfOk result (λ s. IsLineOf self.now (string_bytes s)) }
     {
         let mut line = self.text(alloc)?;
         line.push_str("\n")?;
         Ok(line)
     }
+}
+
+/// The answer that has a listing.
+fn listing_text(alloc: Global, listing: &str) -> Result<String, AllocError>
+    ensures { IfOk result (λ s. IsJson (ok_data (string listing.now)) (string_bytes s)) }
+{
+    json!(in alloc; {"ok": listing})?.to_string(alloc)
+}
+
+/// The answer that says why there is no result.
+fn fault_text(alloc: Global, failure: &Failure, place: Option<Place>) -> Result<String, AllocError>
+    ensures { IfOk result (λ s. (text : List ℕ) × IsJson (fault_data (status_of failure.now) text place) (string_bytes s)) }
+{
+    let text = format!(in alloc; "{}", failure)?;
+    fault_json(alloc, failure.status(), text.as_str(), place)?.to_string(alloc)
 }
 
 /// What is answered without a listing.

@@ -1,7 +1,7 @@
 //! What the words of a call ask for.
 
 ghost use Rattle.std.specs.Prelude.{◌≡◌};
-ghost use Rattle.lower_lines.specs.Calls.{asked_by, call_of, of_one, of_two};
+ghost use Rattle.lower_lines.specs.Calls.{asked_by, call_of, of_one, of_two, option_of};
 
 use lower_run::mode::Mode;
 use std::convert::AsStr;
@@ -48,16 +48,22 @@ impl Call {
         }
     }
 
-    /// What the word of a mode and one behind it ask for.
-    fn of_two(word: &str, option: &str) -> Option<Call>
-        ensures { result ≡ of_two word.now option.now }
+    /// What a word behind that of a mode asks for.
+    fn with_option(mode: Mode, option: &str) -> Option<Call>
+        ensures { result ≡ option_of mode option.now }
     {
-        let mode = Mode::with_word(word)?;
         match option {
             "--json" => Some(Call::Lines(mode, Form::Json)),
             "--document" => Some(Call::Document(mode)),
             _ => None,
         }
+    }
+
+    /// What two words ask for.
+    fn of_two(word: &str, option: &str) -> Option<Call>
+        ensures { result ≡ of_two word.now option.now }
+    {
+        Call::with_option(Mode::with_word(word)?, option)
     }
 
     /// What the words ask for: the word of a mode alone or with `--json` or `--document` behind it, or one of `--help` and `--version`.

@@ -1,5 +1,8 @@
 //! One document, which all of an input is.
 
+ghost use Rattle.std.specs.Prelude.{◌≡◌, ◌⊎◌, IfErr, IfOk};
+ghost use Rattle.lower_lines.specs.Lines.{AnswersDocument, AnswersText};
+
 use crate::answer::{Answer, REFUSED};
 use crate::call::Form;
 use crate::lines::send;
@@ -15,7 +18,10 @@ fn answer_document<O: Write>(
     mode: Mode,
     text: &[u8],
     out: &mut O,
-) -> Result<u8, Failure> {
+) -> Result<u8, Failure>
+    ensures answered { IfOk result (λ status. AnswersText mode status text.now (O.contents out.old) (O.contents out.new)) }
+    ensures err { IfErr result (λ e. e ≡ Failure.Output) }
+{
     let answer = Answer::of(alloc, mode, Form::Json, text);
     match answer.line(alloc) {
         Ok(line) => {
@@ -37,7 +43,12 @@ pub fn lower_document<R: Read, O: Write, X: Write>(
     input: &mut R,
     out: &mut O,
     errors: &mut X,
-) -> u8 {
+) -> u8
+    ensures status { (result ≡ 0) ⊎ (result ≡ 2) ⊎ (result ≡ 3) }
+    ensures answered { result ≡ 0 →
+        AnswersDocument mode 0 (R.remaining input.old) (R.remaining input.new) (O.contents out.old) (O.contents out.new) }
+    ensures silent { result ≡ 0 → errors.new ≡ errors.old }
+{
     let done = match read_all(alloc, input) {
         Ok(text) => answer_document(alloc, mode, text.as_slice(), out),
         Err(failure) => Err(failure),

@@ -59,7 +59,7 @@ fn answer_one<O: Write>(
     line: &[u8],
     out: &mut O,
 ) -> Result<(), Failure>
-    ensures answered { OnOk result (AnswersOne mode line.now (O.contents out.old) (O.contents out.new)) }
+    ensures answered { OnOk result (AnswersOne mode form line.now (O.contents out.old) (O.contents out.new)) }
     ensures err { IfErr result (λ e. e ≡ Failure.Output) }
 {
     match Answer::of(alloc, mode, form, line).line(alloc) {
@@ -77,7 +77,7 @@ fn answer_all<R: BufRead, O: Write>(
     out: &mut O,
 ) -> Result<(), Failure>
     ensures answered { OnOk result
-        (AnswersAll mode (R.remaining input.old) (R.remaining input.new) (O.contents out.old) (O.contents out.new)) }
+        (AnswersAll mode form (R.remaining input.old) (R.remaining input.new) (O.contents out.old) (O.contents out.new)) }
     ensures err { IfErr result (λ e. (e ≡ Failure.Input) ⊎ (e ≡ Failure.Output) ⊎ (e ≡ Failure.Memory)) }
 {
     for _ in 0..u64::MAX {
@@ -105,7 +105,7 @@ pub fn lower_lines<R: BufRead, O: Write, X: Write>(
 ) -> u8
     ensures status { (result ≡ 0) ⊎ (result ≡ 2) ⊎ (result ≡ 3) }
     ensures answered { result ≡ 0 →
-        AnswersAll mode (R.remaining input.old) (R.remaining input.new) (O.contents out.old) (O.contents out.new) }
+        AnswersAll mode form (R.remaining input.old) (R.remaining input.new) (O.contents out.old) (O.contents out.new) }
     ensures silent { result ≡ 0 → errors.new ≡ errors.old }
 {
     match answer_all(alloc, mode, form, input, out) {
