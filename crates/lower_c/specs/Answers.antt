@@ -1,5 +1,6 @@
 -- What a call answers.
-use Rattle.std.specs.Prelude.{◌≡◌, ◌≤◌, ◌<◌, ℕ, List, [], ◌∷◌, length, take, drop, Option, Some, None, Result, Ok, Err, String, string_bytes}
+use Rattle.std.specs.Prelude.{◌≡◌, ◌≤◌, ◌<◌, ℕ, List, [], ◌∷◌, length, take, drop, Option, Some, None}
+use Rattle.std.specs.Prelude.{Result, Ok, Err, IfOk, String, string_bytes}
 use Rattle.std.specs.List.{slice_get}
 use Rattle.std.specs.declared.alloc.Global.{Global}
 use Rattle.lower_run.specs.Answers.{CameOf}
@@ -14,9 +15,9 @@ abbrev pub mode_of : ℕ → Option Mode
 mode_of number = slice_get (modes.Body ∷ modes.Path ∷ modes.Type_ ∷ modes.Pat ∷ modes.Fn ∷ []) number
 
 -- what came of a document, if a mode is asked for; memory may be refused for any
-abbrev pub CameOfCall : Option Mode → List ℕ → Result (String Global) Failure → Type 0
+abbrev pub CameOfCall : {T : Type 0} → Option Mode → List ℕ → Result T Failure → Type 0
 CameOfCall (Some mode) document came = CameOf mode document came
-CameOfCall None document (Ok listing) = ⊥
+CameOfCall None document (Ok x) = ⊥
 CameOfCall None document (Err failure.Usage) = Unit {0}
 CameOfCall None document (Err failure.Memory) = Unit {0}
 CameOfCall None document (Err failure.Input) = ⊥
@@ -25,14 +26,9 @@ CameOfCall None document (Err failure.Full) = ⊥
 CameOfCall None document (Err (failure.Document f)) = ⊥
 
 -- the status of a call with room for what it says: that of the program
-abbrev pub status_with_room : Result (String Global) Failure → ℕ
-status_with_room (Ok listing) = 0
+abbrev pub status_with_room : {T : Type 0} → Result T Failure → ℕ
+status_with_room (Ok x) = 0
 status_with_room (Err failure) = status_of failure
-
--- a listing goes out as it is; what is said in place of one isn't stated
-abbrev pub Says : Result (String Global) Failure → List ℕ → Type 0
-Says (Ok listing) text = text ≡ string_bytes listing
-Says (Err failure) text = Unit {0}
 
 -- a text goes to the head of a buffer, with a status; one that is too short stays as it is
 pub record HandsOver (status : ℕ) (text : List ℕ) (answer needed : ℕ) (old new : List ℕ) : Type 0 where
@@ -42,14 +38,19 @@ pub record HandsOver (status : ℕ) (text : List ℕ) (answer needed : ℕ) (old
   pub behind : needed ≤ length old → drop needed new ≡ drop needed old
   pub short : length old < needed → (answer ≡ 4) × (new ≡ old)
 
--- a buffer has what came of a document
-pub record Reports (came : Result (String Global) Failure) (answer needed : ℕ) (old new : List ℕ) : Type 0 where
+-- a buffer has what came of a document; what is said if it isn't lowered isn't stated
+pub record Reports {T : Type 0} (Says : T → List ℕ → Type 0) (came : Result T Failure) (answer needed : ℕ) (old new : List ℕ) : Type 0 where
   pub text : List ℕ
-  pub says : Says came text
+  pub says : IfOk came (λ x. Says x text)
   pub handed : HandsOver (status_with_room came) text answer needed old new
 
 -- a buffer has what came of the document that a call was about
-pub record Answers (mode : Option Mode) (document : List ℕ) (answer needed : ℕ) (old new : List ℕ) : Type 0 where
-  pub came : Result (String Global) Failure
+pub record Answers {T : Type 0} (Says : T → List ℕ → Type 0) (mode : Option Mode) (document : List ℕ) (answer needed : ℕ) (old new : List ℕ)
+    : Type 0 where
+  pub came : Result T Failure
   pub of : CameOfCall mode document came
-  pub reports : Reports came answer needed old new
+  pub reports : Reports Says came answer needed old new
+
+-- a listing goes out as it is
+abbrev pub IsListing : String Global → List ℕ → Type 0
+IsListing listing text = text ≡ string_bytes listing

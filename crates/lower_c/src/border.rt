@@ -1,7 +1,7 @@
 //! What crosses the border: a text to a buffer of the caller's.
 
 ghost use Rattle.std.specs.Prelude.{◌≡◌, ◌⊎◌, Err};
-ghost use Rattle.lower_c.specs.Answers.{HandsOver, Reports};
+ghost use Rattle.lower_c.specs.Answers.{HandsOver, IsListing, Reports};
 
 use lower_run::failure::Failure;
 use std::alloc::Global;
@@ -28,8 +28,8 @@ fn hand_over(status: u32, text: &[u8], out: &mut [u8], needed: &mut usize) -> u3
 
 /// Hands over why there is no listing.
 fn hand_over_failure(alloc: Global, failure: &Failure, out: &mut [u8], needed: &mut usize) -> u32
-    ensures { Reports (Err failure.now) result needed.new out.old out.new
-        ⊎ Reports (Err Failure.Memory) result needed.new out.old out.new }
+    ensures { Reports IsListing (Err failure.now) result needed.new out.old out.new
+        ⊎ Reports IsListing (Err Failure.Memory) result needed.new out.old out.new }
 {
     match format!(in alloc; "{}\n", failure) {
         Ok(text) => hand_over(
@@ -49,7 +49,8 @@ pub fn hand_over_result(
     out: &mut [u8],
     needed: &mut usize,
 ) -> u32
-    ensures { Reports came result needed.new out.old out.new ⊎ Reports (Err Failure.Memory) result needed.new out.old out.new }
+    ensures { Reports IsListing came result needed.new out.old out.new
+        ⊎ Reports IsListing (Err Failure.Memory) result needed.new out.old out.new }
 {
     match came {
         Ok(listing) => hand_over(0, listing.as_str().as_bytes(), out, needed),
