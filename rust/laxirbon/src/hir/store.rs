@@ -1,6 +1,6 @@
 //! The store: all entries that lowering made.
 
-use super::arena::Arena;
+use super::arena::{Arena, Idx};
 use super::expr::{Expr, Label};
 use super::ids::{BindingId, ExprId, LabelId, LifetimeRefId, PatId, TypeRefId};
 use super::pat::{Binding, Pat};
@@ -105,14 +105,15 @@ impl ExpressionStore {
         self.binding_owners.get(id.into_raw() as usize).copied().flatten()
     }
 
-    /// Hands on the expression and all that stand in it, each whole before its parts. Those in patterns and in arguments aren't among them.
+    /// Hands on the expression and all that stand in it, each whole before its parts. Those in patterns and in arguments aren't
+    /// among them.
     pub fn walk_exprs(&self, root: ExprId, f: &mut impl FnMut(ExprId)) {
-        walk(root, f, |id, children| self[id].for_each_child(|child| children.push(child)));
+        walk(&self.exprs, root, f, |expr, children| expr.for_each_child(|child| children.push(child)));
     }
 
     /// Hands on the pattern and all that stand in it, each whole before its parts.
     pub fn walk_pats(&self, root: PatId, f: &mut impl FnMut(PatId)) {
-        walk(root, f, |id, children| self[id].for_each_child(|child| children.push(child)));
+        walk(&self.pats, root, f, |pat, children| pat.for_each_child(|child| children.push(child)));
     }
 
     /// Hands on what the pattern and those in it bind.
@@ -125,13 +126,15 @@ impl ExpressionStore {
     }
 }
 
-/// Hands on what is reached from a root. It takes no stack by depth.
-fn walk<T: Copy>(root: T, f: &mut impl FnMut(T), children: impl Fn(T, &mut Vec<T>)) {
+/// Hands on what is reached from a root. It takes no stack by depth. No result of the library has an entry that contains itself. So that a walk
+/// over another one ends, it hands on no more entries than there are.
+fn walk<T>(arena: &Arena<T>, root: Idx<T>, f: &mut impl FnMut(Idx<T>), children: impl Fn(&T, &mut Vec<Idx<T>>)) {
     let mut left = vec![root];
     let mut below = Vec::new();
-    while let Some(id) = left.pop() {
+    for _ in 0..arena.len() {
+        let Some(id) = left.pop() else { return };
         f(id);
-        children(id, &mut below);
+        children(&arena[id], &mut below);
         left.extend(below.drain(..).rev());
     }
 }
