@@ -1,5 +1,5 @@
 -- What an answer that was sent says.
-use Rattle.std.proofs.Common.{◌≡◌, ℕ, List, codes, None, Result, Ok, Err, OnOk, refl, subst}
+use Rattle.std.proofs.Common.{◌≡◌, ℕ, List, codes, Result, Ok, Err, OnOk, refl, subst}
 use Rattle.std.specs.declared.option.Option.{Option}
 use Rattle.std.specs.Io.KnownBytes.{Appends}
 use Rattle.std.specs.Fmt.{digits}
@@ -13,6 +13,7 @@ use Rattle.lower_lines.specs.declared.answer.Answer.{Answer}
 use Rattle.lower_lines.specs.declared.answer.Answer.TheVariants as answer
 use Rattle.lower_lines.specs.declared.call.Form.{Form}
 use Rattle.lower_lines.specs.declared.call.Form.TheVariants as form
+use Rattle.lower_lines.specs.declared.detail.Detail.TheVariants as detail
 
 pub sent : (mode : Mode) (f : Form) (line sent text : List ℕ) (a : Answer) (p q : Option (List ℕ)) (r : Result (Unit {0}) Failure)
     → IsAnswerTo mode f line a → IsLineOf a text → sent ≡ text → OnOk r (Appends p q sent) → OnOk r (AnswersOne mode f line p q)
@@ -37,10 +38,10 @@ sent_text mode status line sent text a p q of says is ends appends = record {
 }
 
 -- the line that is answered if memory is refused for any other
-pub refused : IsLineOf (answer.Fault failure.Memory None) (codes "{\"fault\":{\"status\":3,\"text\":\"refused: memory\"}}\n")
+pub refused : IsLineOf (answer.Fault failure.Memory detail.Nothing) (codes "{\"fault\":{\"status\":3,\"text\":\"refused: memory\"}}\n")
 unfolding serde_json_on_literals digits
 refused = (
   codes "{\"fault\":{\"status\":3,\"text\":\"refused: memory\"}}",
-  (fault_data 3 (codes "refused: memory") None, (codes "refused: memory", refl), refl, refl),
+  (fault_data 3 (codes "refused: memory") detail.Nothing, (codes "refused: memory", refl), refl, refl),
   refl,
 )

@@ -1,5 +1,5 @@
 -- What is answered to a document.
-use Rattle.std.specs.Prelude.{◌≡◌, ℕ, List, [], ◌∷◌, ◌++◌, codes, Option, Some, None, Result, Err, string_bytes}
+use Rattle.std.specs.Prelude.{◌≡◌, ℕ, List, [], ◌∷◌, ◌++◌, codes, Some, Err, string_bytes}
 use Rattle.serde_json.specs.Data.{Data, Members, object, member, no_members, number, string, unsigned}
 use Rattle.serde_json.specs.Read.{read}
 use Rattle.serde_json.specs.Written.{compact_text}
@@ -13,19 +13,21 @@ use Rattle.lower_lines.specs.declared.answer.Answer.{Answer}
 use Rattle.lower_lines.specs.declared.answer.Answer.TheVariants as answer
 use Rattle.lower_lines.specs.declared.call.Form.{Form}
 use Rattle.lower_lines.specs.declared.call.Form.TheVariants as form
-use Rattle.lower_lines.specs.declared.place.Place.{Place}
+use Rattle.lower_lines.specs.declared.detail.Detail.{Detail}
+use Rattle.lower_lines.specs.declared.detail.Detail.TheVariants as detail
+use Rattle.lower_lines.specs.declared.detail.Member.{Member}
 
 -- it is what came of a line as a document, in the form that was asked for
 abbrev pub IsAnswerTo : Mode → Form → List ℕ → Answer → Type 0
 IsAnswerTo mode f line (answer.Listing text) = (f ≡ form.Listing) × SaysSome mode line
 IsAnswerTo mode f line (answer.Lowered l) = (f ≡ form.Json) × SaysSome mode line
-IsAnswerTo mode f line (answer.Fault failure place) = CameOf {T = Unit {0}} mode line (Err failure)
+IsAnswerTo mode f line (answer.Fault failure d) = CameOf {T = Unit {0}} mode line (Err failure)
 
 -- the status with which a single call for the document ends
 abbrev pub status_of_answer : Answer → ℕ
 status_of_answer (answer.Listing text) = 0
 status_of_answer (answer.Lowered l) = 0
-status_of_answer (answer.Fault failure place) = status_of failure
+status_of_answer (answer.Fault failure d) = status_of failure
 
 -- all that a document is lowered to
 abbrev pub result_data : Lowered → Data
@@ -40,14 +42,18 @@ result_data (lowered.Function f) =
 abbrev pub fault_members : ℕ → List ℕ → Members
 fault_members status text = member (codes "status") (number (unsigned status)) (member (codes "text") (string text) no_members)
 
--- and where its text stops being JSON
-abbrev pub placed_members : ℕ → List ℕ → Option Place → Members
-placed_members status text None = fault_members status text
-placed_members status text (Some p) =
-    member (codes "column") (number (unsigned p.column)) (member (codes "line") (number (unsigned p.line)) (fault_members status text))
+abbrev pub hint_data : Member → Data
+hint_data m = object (member (codes "member") (string (string_bytes m.name)) (member (codes "node") (number (unsigned m.node)) no_members))
 
-abbrev pub fault_data : ℕ → List ℕ → Option Place → Data
-fault_data status text place = object (member (codes "fault") (object (placed_members status text place)) no_members)
+-- where a text stops being JSON, or a member that isn't read, and the status and the text
+abbrev pub detail_members : Detail → ℕ → List ℕ → Members
+detail_members detail.Nothing status text = fault_members status text
+detail_members (detail.Place p) status text =
+    member (codes "column") (number (unsigned p.column)) (member (codes "line") (number (unsigned p.line)) (fault_members status text))
+detail_members (detail.Unread m) status text = member (codes "hint") (hint_data m) (fault_members status text)
+
+abbrev pub fault_data : ℕ → List ℕ → Detail → Data
+fault_data status text d = object (member (codes "fault") (object (detail_members d status text)) no_members)
 
 abbrev pub ok_data : Data → Data
 ok_data d = object (member (codes "ok") d no_members)
@@ -56,7 +62,7 @@ ok_data d = object (member (codes "ok") d no_members)
 abbrev pub SaysAnswer : Answer → Data → Type 0
 SaysAnswer (answer.Listing text) d = d ≡ ok_data (string (string_bytes text))
 SaysAnswer (answer.Lowered l) d = d ≡ ok_data (result_data l)
-SaysAnswer (answer.Fault failure place) d = (text : List ℕ) × (d ≡ fault_data (status_of failure) text place)
+SaysAnswer (answer.Fault failure beside) d = (text : List ℕ) × (d ≡ fault_data (status_of failure) text beside)
 
 -- the text is its JSON, and is read as nothing else
 abbrev pub IsJson : Data → List ℕ → Type 0

@@ -7,9 +7,8 @@ ghost use Rattle.lower_run.specs.Statuses.{status_of};
 ghost use Rattle.lower_lines.specs.Answers.{IsAnswerTo, IsJson, IsLineOf, IsTextOf, fault_data, ok_data, status_of_answer};
 
 use crate::call::Form;
-use crate::place::{Place, place_in};
+use crate::detail::Detail;
 use crate::result::result_text;
-use lower_json::fault::Fault;
 use lower_run::failure::Failure;
 use lower_run::lowered::Lowered;
 use lower_run::mode::Mode;
@@ -23,26 +22,14 @@ pub enum Answer {
     Listing(String),
     /// All that it is lowered to.
     Lowered(Lowered),
-    /// Why there is none, and where a text stops being JSON.
-    Fault(Failure, Option<Place>),
+    /// Why there is no result.
+    Fault(Failure, Detail),
 }
 
 /// The line that is answered if memory is refused for any other.
 pub const REFUSED: &str = "{\"fault\":{\"status\":3,\"text\":\"refused: memory\"}}\n";
 
 impl Answer {
-    /// What is answered to a document that isn't lowered.
-    fn of_failure(alloc: Global, line: &[u8], failure: Failure) -> Answer
-        ensures { (place : Option Place) × (result ≡ Answer.Fault failure place) }
-    {
-        match failure {
-            Failure::Document(Fault::NotJson) => {
-                Answer::Fault(Failure::Document(Fault::NotJson), place_in(alloc, line))
-            }
-            failure => Answer::Fault(failure, None),
-        }
-    }
-
     /// What is answered to the document that a line is in a mode.
     pub fn of(alloc: Global, mode: Mode, form: Form, line: &[u8]) -> Answer
         ensures { IsAnswerTo mode form line.now result }
@@ -53,7 +40,10 @@ impl Answer {
         };
         match done {
             Ok(answer) => answer,
-            Err(failure) => Answer::of_failure(alloc, line, failure),
+            Err(failure) => {
+                let detail = Detail::of(alloc, &failure, line);
+                Answer::Fault(failure, detail)
+            }
         }
     }
 
@@ -74,7 +64,7 @@ impl Answer {
         match self {
             Answer::Listing(listing) => listing_text(alloc, listing.as_str()),
             Answer::Lowered(lowered) => result_text(alloc, lowered),
-            Answer::Fault(failure, place) => fault_text(alloc, failure, *place),
+            Answer::Fault(failure, detail) => fault_text(alloc, failure, detail),
         }
     }
 
@@ -96,29 +86,29 @@ fn listing_text(alloc: Global, listing: &str) -> Result<String, AllocError>
 }
 
 /// The answer that says why there is no result.
-fn fault_text(alloc: Global, failure: &Failure, place: Option<Place>) -> Result<String, AllocError>
-    ensures { IfOk result (λ s. (text : List ℕ) × IsJson (fault_data (status_of failure.now) text place) (string_bytes s)) }
+fn fault_text(alloc: Global, failure: &Failure, detail: &Detail) -> Result<String, AllocError>
+    ensures { IfOk result (λ s. (text : List ℕ) × IsJson (fault_data (status_of failure.now) text detail.now) (string_bytes s)) }
 {
     let text = format!(in alloc; "{}", failure)?;
-    fault_json(alloc, failure.status(), text.as_str(), place)?.to_string(alloc)
+    fault_json(alloc, failure.status(), text.as_str(), detail)?.to_string(alloc)
 }
 
-/// What is answered without a listing.
-fn fault_json(
-    alloc: Global,
-    status: u8,
-    text: &str,
-    place: Option<Place>,
-) -> Result<Value, AllocError>
-    ensures { IfOk result (λ v. view v ≡ fault_data status text.now place) }
+/// What says why there is no result.
+fn fault_json(alloc: Global, status: u8, text: &str, detail: &Detail) -> Result<Value, AllocError>
+    ensures { IfOk result (λ v. view v ≡ fault_data status text.now detail.now) }
 {
     let status = u64::from(status);
-    match place {
-        None => json!(in alloc; {"fault": {"status": status, "text": text}}),
-        Some(at) => {
+    match detail {
+        Detail::Nothing => json!(in alloc; {"fault": {"status": status, "text": text}}),
+        Detail::Place(at) => {
             let line = at.line as u64;
             let column = at.column as u64;
             json!(in alloc; {"fault": {"column": column, "line": line, "status": status, "text": text}})
+        }
+        Detail::Unread(member) => {
+            let node = member.node as u64;
+            let name = member.name.as_str();
+            json!(in alloc; {"fault": {"hint": {"member": name, "node": node}, "status": status, "text": text}})
         }
     }
 }

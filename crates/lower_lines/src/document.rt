@@ -35,8 +35,23 @@ fn answer_document<O: Write>(
     }
 }
 
-/// Answers the document that all of an input is, as a line among many is answered, and answers the status with which lower_tool ends for it:
-/// 0, or 2 where the document is wrong or a read or a write failed, or 3 where memory was refused or an arena was full.
+/// Answers the document that all of an input is, and answers the status with which a single call for it ends.
+fn answer_input<R: Read, O: Write>(
+    alloc: Global,
+    mode: Mode,
+    input: &mut R,
+    out: &mut O,
+) -> Result<u8, Failure>
+    ensures answered { IfOk result (λ status. AnswersDocument mode status
+        (R.remaining input.old) (R.remaining input.new) (O.contents out.old) (O.contents out.new)) }
+    ensures err { IfErr result (λ e. (e ≡ Failure.Input) ⊎ (e ≡ Failure.Output) ⊎ (e ≡ Failure.Memory)) }
+{
+    let text = read_all(alloc, input)?;
+    answer_document(alloc, mode, text.as_slice(), out)
+}
+
+/// Answers the document that all of an input is, as a line among many is answered, and answers the status with which lower_tool ends for
+/// it: 0, or 2 where the document is wrong or a read or a write failed, or 3 where memory was refused or an arena was full.
 pub fn lower_document<R: Read, O: Write, X: Write>(
     alloc: Global,
     mode: Mode,
@@ -49,11 +64,7 @@ pub fn lower_document<R: Read, O: Write, X: Write>(
         AnswersDocument mode 0 (R.remaining input.old) (R.remaining input.new) (O.contents out.old) (O.contents out.new) }
     ensures silent { result ≡ 0 → errors.new ≡ errors.old }
 {
-    let done = match read_all(alloc, input) {
-        Ok(text) => answer_document(alloc, mode, text.as_slice(), out),
-        Err(failure) => Err(failure),
-    };
-    match done {
+    match answer_input(alloc, mode, input, out) {
         Ok(status) => status,
         Err(failure) => failure.report(errors),
     }

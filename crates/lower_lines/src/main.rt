@@ -3,9 +3,9 @@
 
 mod answer;
 mod call;
+mod detail;
 mod document;
 mod lines;
-mod place;
 mod result;
 
 use crate::call::{Call, Form};
@@ -37,6 +37,8 @@ Lowers the documents on standard input, one a line. Each is answered by a line o
     the status that lower_tool ends with, and what it says
 {\"fault\":{\"column\":COLUMN,\"line\":LINE,\"status\":2,\"text\":TEXT}}
     the same of a text that isn't JSON, and where it stops being JSON
+{\"fault\":{\"hint\":{\"member\":NAME,\"node\":NODE},\"status\":2,\"text\":TEXT}}
+    the same of a node that no field names, and a member that names it, but that isn't read
 
 The status is 0 once each line is answered, also by faults; 2 if the words are wrong or a stream failed; 3 if memory was refused for
 holding a line.
