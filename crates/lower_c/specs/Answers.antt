@@ -1,6 +1,6 @@
 -- What a call answers.
 use Rattle.std.specs.Prelude.{◌≡◌, ◌≤◌, ◌<◌, ℕ, List, [], ◌∷◌, length, take, drop, Option, Some, None}
-use Rattle.std.specs.Prelude.{Result, Ok, Err, IfOk, String, string_bytes}
+use Rattle.std.specs.Prelude.{Result, Ok, Err, String, string_bytes, codes}
 use Rattle.std.specs.List.{slice_get}
 use Rattle.std.specs.declared.alloc.Global.{Global}
 use Rattle.lower_run.specs.Answers.{CameOf}
@@ -30,6 +30,11 @@ abbrev pub status_with_room : {T : Type 0} → Result T Failure → ℕ
 status_with_room (Ok x) = 0
 status_with_room (Err failure) = status_of failure
 
+-- what is said of what came: a listing as it is; of a failure only that of memory is stated
+abbrev pub Says : Result (String Global) Failure → List ℕ → Type 0
+Says (Ok listing) text = text ≡ string_bytes listing
+Says (Err failure) text = failure ≡ failure.Memory → text ≡ codes "refused: memory\n"
+
 -- a text goes to the head of a buffer, with a status; one that is too short stays as it is
 pub record HandsOver (status : ℕ) (text : List ℕ) (answer needed : ℕ) (old new : List ℕ) : Type 0 where
   pub of_length : needed ≡ length text
@@ -38,19 +43,14 @@ pub record HandsOver (status : ℕ) (text : List ℕ) (answer needed : ℕ) (old
   pub behind : needed ≤ length old → drop needed new ≡ drop needed old
   pub short : length old < needed → (answer ≡ 4) × (new ≡ old)
 
--- a buffer has what came of a document; what is said if it isn't lowered isn't stated
-pub record Reports {T : Type 0} (Says : T → List ℕ → Type 0) (came : Result T Failure) (answer needed : ℕ) (old new : List ℕ) : Type 0 where
+-- a buffer has what is said of what came
+pub record Reports (came : Result (String Global) Failure) (answer needed : ℕ) (old new : List ℕ) : Type 0 where
   pub text : List ℕ
-  pub says : IfOk came (λ x. Says x text)
+  pub says : Says came text
   pub handed : HandsOver (status_with_room came) text answer needed old new
 
--- a buffer has what came of the document that a call was about
-pub record Answers {T : Type 0} (Says : T → List ℕ → Type 0) (mode : Option Mode) (document : List ℕ) (answer needed : ℕ) (old new : List ℕ)
-    : Type 0 where
-  pub came : Result T Failure
+-- a buffer has what is said of what came of the document that a call was about
+pub record Answers (mode : Option Mode) (document : List ℕ) (answer needed : ℕ) (old new : List ℕ) : Type 0 where
+  pub came : Result (String Global) Failure
   pub of : CameOfCall mode document came
-  pub reports : Reports Says came answer needed old new
-
--- a listing goes out as it is
-abbrev pub IsListing : String Global → List ℕ → Type 0
-IsListing listing text = text ≡ string_bytes listing
+  pub reports : Reports came answer needed old new

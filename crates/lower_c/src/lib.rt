@@ -1,7 +1,7 @@
 //! Lowering for C and for what calls C: `include/laxirbon.h` and `docs/EMBEDDING.md`.
 #![tactic(auto)]
 
-ghost use Rattle.lower_c.specs.Answers.{Answers, IsListing, mode_of};
+ghost use Rattle.lower_c.specs.Answers.{Answers, mode_of};
 
 mod border;
 mod modes;
@@ -23,7 +23,7 @@ pub extern "C" fn laxirbon_lower(
     out: &mut [u8],
     needed: &mut usize,
 ) -> u32
-    ensures { Answers IsListing (mode_of mode) document.now result needed.new out.old out.new }
+    ensures { Answers (mode_of mode) document.now result needed.new out.old out.new }
 {
     let came = lower(alloc, mode_with(mode), document);
     hand_over_result(alloc, came, out, needed)
