@@ -3,7 +3,7 @@
 use crate::ffi::{self, Form};
 use crate::hir::{Body, FunctionSignature, LoweredPath, LoweredType};
 use crate::{Document, Error};
-use std::thread;
+use std::{str, thread};
 
 /// What the root of a document is, and so what is lowered of it.
 #[derive(Clone, Copy, Debug, PartialEq, Eq, Hash)]

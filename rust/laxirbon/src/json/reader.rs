@@ -406,7 +406,7 @@ impl<'t> ObjectMembers<'t> {
             return Ok(found);
         }
         self.left = self.object.parts();
-        self.next(key).ok_or(self.object.error(Problem::Missing(key)))
+        self.next(key).ok_or_else(|| self.object.error(Problem::Missing(key)))
     }
 
     /// The next member with this key.
