@@ -6,7 +6,10 @@ use crate::json::{FromJson, HasKinds, Problem, ReadError, Sizes, Tape, ToJson, W
 
 const PAGE: &str = include_str!("../../../../docs/RESULT.md");
 
-const STORE: &str = r#"{"binding_owners":[],"bindings":[],"exprs":[],"labels":[],"lifetimes":[],"pats":[],"roots":[],"types":[]}"#;
+const STORE: &str =
+    r#"{"binding_owners":[],"bindings":[],"exprs":[],"labels":[],"lifetimes":[],"pats":[],"roots":[],"types":[{"k":"Never"}]}"#;
+
+const GENERIC_PARAMS: &str = r#"{"early_bound_lifetimes_len":0,"lifetimes":[],"type_or_consts":[],"where_predicates":[]}"#;
 
 const ALL: Sizes = Sizes { exprs: 9, pats: 9, bindings: 9, labels: 9, types: 9, lifetimes: 9 };
 
@@ -215,6 +218,23 @@ fn ids_are_in_range() {
     let root = |end: u32| format!(r#"{{"bindings_end":0,"exprs_end":{end},"pats_end":0,"root":0}}"#);
     assert!(read::<ExprRoot>(&root(9)).is_ok());
     assert_eq!(read::<ExprRoot>(&root(10)).map_err(|error| error.problem), Err(Problem::OutOfRange));
+}
+
+/// The only example of a result.
+fn result(name: &str) -> String {
+    let map = written(&ExpressionStoreSourceMap::default());
+    let parts = [("source_map", map.as_str()), ("store", STORE), ("generic_params", GENERIC_PARAMS)];
+    let all = examples(name);
+    let [example] = all.as_slice() else { panic!("one example of {name}") };
+    parts.iter().fold(example.clone(), |text, (key, part)| text.replace(&format!("\"{key}\":.."), &format!("\"{key}\":{part}")))
+}
+
+#[test]
+fn results_are_read_and_written() {
+    let (body, ty, function) = (result("lower_body"), result("lower_type_ref"), result("lower_function"));
+    assert_eq!(Body::from_json(&body).map(|body| body.to_json()), Ok(body));
+    assert_eq!(LoweredType::from_json(&ty).map(|ty| ty.to_json()), Ok(ty));
+    assert_eq!(FunctionSignature::from_json(&function).map(|function| function.to_json()), Ok(function));
 }
 
 #[test]
