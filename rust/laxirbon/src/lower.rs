@@ -143,8 +143,8 @@ pub fn lower_pat(document: &Document<'_>) -> Result<Body, Error> {
     Ok(Body::from_json(&json(Mode::Pat, document)?)?)
 }
 
-/// Lowers the signature of a function: its generic parameters, and the types of its parameters and its result. The root of the document is a
-/// `Fn`.
+/// Lowers the signature of a function: its generic parameters, and the types of its parameters and its result. The root of the document is
+/// a `Fn`.
 pub fn lower_fn(document: &Document<'_>) -> Result<FunctionSignature, Error> {
     Ok(FunctionSignature::from_json(&json(Mode::Fn, document)?)?)
 }

@@ -142,17 +142,17 @@ fn errors_say_what_the_program_says() {
 }
 
 /// A function of nested blocks, so many levels deep.
-fn nested(levels: usize) -> Document<'static> {
+fn nested_blocks(levels: usize) -> Document<'static> {
     Document::from_tree(function((2..levels).fold(Node::new("BlockExpr"), |inner, _| block(inner))))
 }
 
 #[test]
 fn a_small_stack_is_enough() {
-    let deepest = nested(256);
+    let deepest = nested_blocks(256);
     let lowered = thread::Builder::new().stack_size(64 << 10).spawn(move || lower_body(&deepest)).expect("a thread").join();
     let body = lowered.expect("no panic").expect("a body");
     assert_eq!(body.store.exprs().len(), 255);
-    assert!(matches!(lower_body(&nested(257)), Err(Error::Fault(text)) if text == "node 256: too deep"));
+    assert!(matches!(lower_body(&nested_blocks(257)), Err(Error::Fault(text)) if text == "node 256: too deep"));
 }
 
 #[test]

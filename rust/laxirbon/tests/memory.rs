@@ -6,7 +6,7 @@ use laxirbon::{Document, listing, lower_body};
 const DOCUMENT: &str = include_str!("../../../examples/for_and_question.json");
 
 /// How many pages of memory the process has.
-fn resident() -> usize {
+fn resident_pages() -> usize {
     let statm = std::fs::read_to_string("/proc/self/statm").expect("statm");
     statm.split(' ').nth(1).and_then(|pages| pages.parse().ok()).expect("pages")
 }
@@ -20,8 +20,8 @@ fn calls_leave_no_memory() {
         }
     };
     calls(1000);
-    let before = resident();
+    let before = resident_pages();
     calls(2000);
-    let more = resident().saturating_sub(before);
+    let more = resident_pages().saturating_sub(before);
     assert!(more < 100, "{more} more pages after 2,000 calls");
 }
