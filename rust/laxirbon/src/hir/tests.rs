@@ -24,7 +24,7 @@ const PARTS: &[(&str, &str)] = &[
 
 /// The examples of a form, by the name behind the title of the form.
 fn examples(name: &str) -> Vec<String> {
-    let title = format!("(`{name}`)");
+    let title = format!("(`{name}`");
     let start = PAGE.lines().position(|line| line.starts_with("**") && line.contains(&title));
     let behind = PAGE.lines().skip(start.unwrap_or_else(|| panic!("no form {name}")));
     let block = behind.skip_while(|line| *line != "```text").skip(1).take_while(|line| *line != "```");
@@ -98,7 +98,6 @@ fn objects_are_read_and_written() {
     check::<RecordLitField>("RecordLitField");
     check::<Binding>("Binding");
     check::<RecordFieldPat>("RecordFieldPat");
-    check::<TypeParamId>("TypeParamId");
     check::<ModPath>("ModPath");
     check::<ExprRoot>("ExprRoot");
     check::<ExpandedCall>("ExpandedCall");
