@@ -104,7 +104,7 @@ fn text(form: Form, mode: Mode, document: &Document<'_>) -> Result<String, Error
     };
     let (status, out) = with_stack(stack_for(bytes), || lower(form, mode, bytes, size))?;
     let text = String::from_utf8(out).map_err(|_| Error::Library(status))?;
-    let said = |prefix| text.trim_end().trim_start_matches(prefix).to_owned();
+    let said = |prefix| text.trim_end().strip_prefix(prefix).unwrap_or(&text).to_owned();
     match status {
         OK => Ok(text),
         FAULT => Err(Error::Fault(said("fault: "))),
