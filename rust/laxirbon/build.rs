@@ -1,7 +1,7 @@
 //! Finds the library of lowering and the C library of the Rattle toolchain, and has both linked.
 //!
-//! `LAXIRBON_LIB` names the archive of lowering. Without it the one of the checkout is taken that this crate is in. `LAXIRBON_LIBC` names the
-//! archive of the toolchain. Without it the one of the `rt` on the path is taken.
+//! `LAXIRBON_LIB` names the archive of lowering. Without it the one of the checkout is taken that this crate is in. `LAXIRBON_LIBC` names
+//! the archive of the toolchain. Without it the one of the `rt` on the path is taken.
 
 use std::env;
 use std::path::{Path, PathBuf};
@@ -26,10 +26,11 @@ fn fail(what: &str) -> ! {
 /// The archive of lowering.
 fn lowering() -> PathBuf {
     if let Some(named) = env::var_os("LAXIRBON_LIB") {
-        return present(named.into()).unwrap_or_else(|path| fail(&format!("LAXIRBON_LIB is {}, and that is no file", path.display())));
+        return existing_file(named.into())
+            .unwrap_or_else(|path| fail(&format!("LAXIRBON_LIB is {}, and that is no file", path.display())));
     }
     let checkout = Path::new(env!("CARGO_MANIFEST_DIR")).join("../../crates/lower_c/out/liblower_c.a");
-    present(checkout).unwrap_or_else(|path| {
+    existing_file(checkout).unwrap_or_else(|path| {
         fail(&format!("no {}. `rt lib` in crates/lower_c makes it; or set LAXIRBON_LIB to an archive", path.display()))
     })
 }
@@ -37,17 +38,18 @@ fn lowering() -> PathBuf {
 /// The archive of the toolchain, which has what allocates.
 fn toolchain() -> PathBuf {
     if let Some(named) = env::var_os("LAXIRBON_LIBC") {
-        return present(named.into()).unwrap_or_else(|path| fail(&format!("LAXIRBON_LIBC is {}, and that is no file", path.display())));
+        return existing_file(named.into())
+            .unwrap_or_else(|path| fail(&format!("LAXIRBON_LIBC is {}, and that is no file", path.display())));
     }
     let folders = env::var_os("PATH").unwrap_or_default();
     let found = env::split_paths(&folders).find_map(|folder| {
         let rt = folder.join("rt").canonicalize().ok()?;
-        present(rt.parent()?.parent()?.join("c/liblibc_c.a")).ok()
+        existing_file(rt.parent()?.parent()?.join("c/liblibc_c.a")).ok()
     });
     found.unwrap_or_else(|| fail("no rt on the path, so set LAXIRBON_LIBC to c/liblibc_c.a of the Rattle toolchain"))
 }
 
-fn present(path: PathBuf) -> Result<PathBuf, PathBuf> {
+fn existing_file(path: PathBuf) -> Result<PathBuf, PathBuf> {
     if path.is_file() { path.canonicalize().map_err(|_| path) } else { Err(path) }
 }
 

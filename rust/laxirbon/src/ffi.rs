@@ -6,6 +6,7 @@
 #![allow(unsafe_code)]
 
 use crate::Mode;
+use std::ops::Range;
 
 /// In which form a result is written.
 #[derive(Clone, Copy, Debug, PartialEq, Eq)]
@@ -36,25 +37,25 @@ pub(crate) fn lower(form: Form, mode: Mode, document: &[u8], out: &mut [u8]) -> 
     (status, needed)
 }
 
-/// How many bytes of stack this thread has left, where that can be told.
+/// How many bytes of stack this thread has left, if that can be told. It can't on a stack that isn't the thread's own, as a coroutine's.
 pub(crate) fn stack_left() -> Option<usize> {
-    let here = 0_u8;
-    let lowest = LOWEST.with(|lowest| *lowest)?;
-    (&raw const here).addr().checked_sub(lowest)
+    let local = 0_u8;
+    let here = (&raw const local).addr();
+    STACK.with(|stack| stack.clone().filter(|stack| stack.contains(&here)).map(|stack| here - stack.start))
 }
 
 thread_local! {
-    /// The lowest address of this thread's stack. It is asked for once, since for a main thread a file is read.
-    static LOWEST: Option<usize> = lowest_of_stack();
+    /// The addresses of this thread's stack. They are asked for once, since for a main thread a file is read.
+    static STACK: Option<Range<usize>> = stack();
 }
 
 #[cfg(target_os = "linux")]
-fn lowest_of_stack() -> Option<usize> {
+fn stack() -> Option<Range<usize>> {
     use std::ffi::{c_int, c_void};
 
-    /// `pthread_attr_t`, which has at most 64 bytes on any Linux.
+    /// `pthread_attr_t`, with room to spare: it has 36 to 64 bytes.
     #[repr(C, align(16))]
-    struct Attributes([u8; 64]);
+    struct Attributes([u8; 128]);
 
     unsafe extern "C" {
         fn pthread_self() -> usize;
@@ -64,7 +65,7 @@ fn lowest_of_stack() -> Option<usize> {
         fn pthread_attr_destroy(attributes: *mut Attributes) -> c_int;
     }
 
-    let mut attributes = Attributes([0; 64]);
+    let mut attributes = Attributes([0; 128]);
     let mut lowest = std::ptr::null_mut();
     let (mut size, mut guard) = (0, 0);
     // SAFETY: the attributes are asked of this very thread, are read only if they were given, and are given back. All that is written to
@@ -77,10 +78,11 @@ fn lowest_of_stack() -> Option<usize> {
             known
         }
     };
-    known.then(|| lowest.addr() + guard)
+    // Some versions of the C library count the guard pages.
+    known.then(|| lowest.addr() + guard..lowest.addr() + size)
 }
 
 #[cfg(not(target_os = "linux"))]
-fn lowest_of_stack() -> Option<usize> {
+fn stack() -> Option<Range<usize>> {
     None
 }

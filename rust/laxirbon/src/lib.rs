@@ -1,9 +1,9 @@
 //! Body lowering that is proved: from a syntax tree to rust-analyzer's HIR.
 //!
-//! A [`Document`] holds a syntax tree, and what an environment answers about it. [`lower_body`] and its like hand it to a library whose code
-//! is proved (`docs/EMBEDDING.md`), and read the result as Rust types. These have the names that they have in rust-analyzer: an
-//! [`ExpressionStore`] with arenas of [`Expr`], [`Pat`], [`Binding`], [`TypeRef`] and others, and an [`ExpressionStoreSourceMap`] from syntax
-//! to ids and back.
+//! A [`Document`] holds a syntax tree, and what an environment answers about it. [`lower_body`] and its like hand it to a library whose
+//! code is proved (`docs/EMBEDDING.md`), and read the result as Rust types. These have the names that they have in rust-analyzer: an
+//! [`ExpressionStore`] with arenas of [`Expr`], [`Pat`], [`Binding`], [`TypeRef`] and others, and an [`ExpressionStoreSourceMap`] from
+//! syntax to ids and back.
 //!
 #![cfg_attr(feature = "library", doc = "```")]
 #![cfg_attr(not(feature = "library"), doc = "```ignore")]

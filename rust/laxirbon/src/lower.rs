@@ -3,7 +3,7 @@
 use crate::ffi::{self, Form};
 use crate::hir::{Body, FunctionSignature, LoweredPath, LoweredType};
 use crate::{Document, Error};
-use std::thread;
+use std::{str, thread};
 
 /// What the root of a document is, and so what is lowered of it.
 #[derive(Clone, Copy, Debug, PartialEq, Eq, Hash)]
@@ -104,7 +104,7 @@ fn text(form: Form, mode: Mode, document: &Document<'_>) -> Result<String, Error
     };
     let (status, out) = with_stack(stack_for(bytes), || lower(form, mode, bytes, size))?;
     let text = String::from_utf8(out).map_err(|_| Error::Library(status))?;
-    let said = |prefix| text.trim_end().trim_start_matches(prefix).to_owned();
+    let said = |prefix| text.trim_end().strip_prefix(prefix).unwrap_or(&text).to_owned();
     match status {
         OK => Ok(text),
         FAULT => Err(Error::Fault(said("fault: "))),
@@ -143,8 +143,8 @@ pub fn lower_pat(document: &Document<'_>) -> Result<Body, Error> {
     Ok(Body::from_json(&json(Mode::Pat, document)?)?)
 }
 
-/// Lowers the signature of a function: its generic parameters, and the types of its parameters and its result. The root of the document is a
-/// `Fn`.
+/// Lowers the signature of a function: its generic parameters, and the types of its parameters and its result. The root of the document is
+/// a `Fn`.
 pub fn lower_fn(document: &Document<'_>) -> Result<FunctionSignature, Error> {
     Ok(FunctionSignature::from_json(&json(Mode::Fn, document)?)?)
 }

@@ -45,7 +45,7 @@ fn row(folder: &Path, name: &str) -> Option<Row> {
 }
 
 /// What the program prints, on standard output and as errors.
-fn printed(result: Result<String, Error>) -> (String, String) {
+fn program_output(result: Result<String, Error>) -> (String, String) {
     match result {
         Ok(text) => (text, String::new()),
         Err(error) => (String::new(), format!("{error}\n")),
@@ -56,7 +56,7 @@ fn printed(result: Result<String, Error>) -> (String, String) {
 fn listings_are_those_of_the_program() {
     let rows = rows("listings");
     for row in &rows {
-        let (output, error) = printed(listing(row.mode, &Document::from_bytes(&row.document)));
+        let (output, error) = program_output(listing(row.mode, &Document::from_bytes(&row.document)));
         assert_eq!(output.as_bytes(), row.output, "{}", row.name);
         assert_eq!(error.as_bytes(), row.error, "{}", row.name);
     }
@@ -64,7 +64,7 @@ fn listings_are_those_of_the_program() {
 }
 
 /// Reads a result of this mode, and writes it again.
-fn rewritten(mode: Mode, text: &str) -> Result<String, ReadError> {
+fn read_and_written(mode: Mode, text: &str) -> Result<String, ReadError> {
     match mode {
         Mode::Body | Mode::Pat => Body::from_json(text).map(|body| body.to_json()),
         Mode::Path => LoweredPath::from_json(text).map(|path| path.to_json()),
@@ -81,7 +81,7 @@ fn results_are_read_and_written_alike() {
         match json(row.mode, &Document::from_bytes(&row.document)) {
             Ok(text) => {
                 count += 1;
-                let again = rewritten(row.mode, &text).unwrap_or_else(|error| panic!("{}: {error}", row.name));
+                let again = read_and_written(row.mode, &text).unwrap_or_else(|error| panic!("{}: {error}", row.name));
                 assert!(again == text, "{}: {text} is written as {again}", row.name);
                 assert!(row.error.is_empty(), "{}: a result", row.name);
             }

@@ -142,17 +142,17 @@ fn errors_say_what_the_program_says() {
 }
 
 /// A function of nested blocks, so many levels deep.
-fn nested(levels: usize) -> Document<'static> {
+fn nested_blocks(levels: usize) -> Document<'static> {
     Document::from_tree(function((2..levels).fold(Node::new("BlockExpr"), |inner, _| block(inner))))
 }
 
 #[test]
 fn a_small_stack_is_enough() {
-    let deepest = nested(256);
+    let deepest = nested_blocks(256);
     let lowered = thread::Builder::new().stack_size(64 << 10).spawn(move || lower_body(&deepest)).expect("a thread").join();
     let body = lowered.expect("no panic").expect("a body");
     assert_eq!(body.store.exprs().len(), 255);
-    assert!(matches!(lower_body(&nested(257)), Err(Error::Fault(text)) if text == "node 256: too deep"));
+    assert!(matches!(lower_body(&nested_blocks(257)), Err(Error::Fault(text)) if text == "node 256: too deep"));
 }
 
 #[test]
@@ -168,4 +168,28 @@ fn many_threads_lower_at_once() {
             });
         }
     });
+}
+
+/// A function in which as many macro calls stand inside one another as may, each in blocks on as many levels as a tree may have.
+fn nested_calls(calls: u32) -> Document<'static> {
+    let call = |file: u32| {
+        let call = Node::new("MacroCall").id(1000 + file).part("path", path("m"));
+        Node::new("ParenExpr").part("expr", Node::new("MacroExpr").part("call", call))
+    };
+    let within = |blocks: usize, inner: Node| (0..blocks).fold(inner, |inner, _| block(inner));
+    let mut document = DocumentBuilder::new(function(within(250, call(0)))).value("limit", calls);
+    for file in 1..=calls {
+        let inner = if file < calls { call(file) } else { Node::new("Literal").text("lit", "int").text("t", "7") };
+        let row = [(file - 1).into(), (999 + file).into(), "file".into(), file.into(), Cell::Tree(within(251, inner))];
+        document = document.row("macros", row);
+    }
+    document.build()
+}
+
+#[test]
+fn nested_macro_calls_get_a_larger_stack() {
+    let document = nested_calls(64);
+    let body = lower_body(&document).expect("a body");
+    assert_eq!(body.source_map.expansions().len(), 64);
+    assert!(body.store.exprs().values().any(|expr| matches!(expr, Expr::Literal(literal) if literal.text == "7")));
 }

@@ -33,7 +33,7 @@ fn a_coroutine_owns_what_the_body_of_a_function_binds() {
     assert_eq!(owned.iter().filter_map(|name| name.as_text()).collect::<Vec<_>>(), ["x", "y", "self"]);
     let [param] = body.params[..] else { panic!("one parameter beside self") };
     assert_ne!(param.formal, param.user_written);
-    assert!(matches!(store[param.user_written], Pat::Tuple { .. }));
+    assert!(matches!(body[param.user_written], Pat::Tuple { .. }));
     let own = body.self_param.expect("self");
     assert_eq!(store[own.user_written].name.to_string(), "self");
     assert!(body.self_node.is_some());

@@ -4,8 +4,8 @@ use super::Document;
 use crate::hir::TextRange;
 use crate::json::{ToJson, Writer};
 
-/// A syntax node: its kind, and its fields by their names, as `docs/DOCUMENTS.md` lists them. Fields that don't fit the kind are errors when
-/// the document is lowered.
+/// A syntax node: its kind, and its fields by their names, as `docs/DOCUMENTS.md` lists them. Fields that don't fit the kind are errors
+/// when the document is lowered.
 ///
 /// ```
 /// use laxirbon::{Document, Node};

@@ -361,6 +361,13 @@ impl Expr {
             Expr::BinaryOp { lhs: first, rhs: second, .. } | Expr::Index { base: first, index: second } => {
                 [*first, *second].into_iter().for_each(f);
             }
+            _ => self.only_child().into_iter().for_each(f),
+        }
+    }
+
+    /// The expression that this one names, if it is of a kind that names no more than one.
+    fn only_child(&self) -> Option<ExprId> {
+        match self {
             Expr::Const(ConstRef { expr })
             | Expr::Loop { body: expr, .. }
             | Expr::Closure { body: expr, .. }
@@ -371,17 +378,9 @@ impl Expr {
             | Expr::Ref { expr, .. }
             | Expr::Become { expr }
             | Expr::Await { expr }
-            | Expr::Cast { expr, .. } => f(*expr),
-            Expr::Break { expr, .. } | Expr::Return { expr } | Expr::Yield { expr } | Expr::Yeet { expr } => {
-                expr.iter().copied().for_each(f);
-            }
-            Expr::Missing
-            | Expr::Path { .. }
-            | Expr::Continue { .. }
-            | Expr::Literal(_)
-            | Expr::OffsetOf { .. }
-            | Expr::Underscore
-            | Expr::IncludeBytes => {}
+            | Expr::Cast { expr, .. } => Some(*expr),
+            Expr::Break { expr, .. } | Expr::Return { expr } | Expr::Yield { expr } | Expr::Yeet { expr } => *expr,
+            _ => None,
         }
     }
 }

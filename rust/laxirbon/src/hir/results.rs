@@ -7,6 +7,7 @@ use super::path::Path;
 use super::source_map::ExpressionStoreSourceMap;
 use super::store::ExpressionStore;
 use crate::json::{FromJson, Problem, ReadError, Record, Sizes, Tape, ToJson, Value, Writer, record};
+use std::ops::Deref;
 
 /// The format that this crate reads, of `docs/RESULT.md`.
 const FORMAT: u32 = 1;
@@ -48,6 +49,15 @@ impl Body {
     /// The expression that the body is: a missing one, if none is written. A result of the library has one.
     pub fn root_expr(&self) -> Option<ExprId> {
         self.store.expr_roots().first().map(|root| root.root)
+    }
+}
+
+/// As in rust-analyzer, what a body has is what its store has: `body[id]` is an entry.
+impl Deref for Body {
+    type Target = ExpressionStore;
+
+    fn deref(&self) -> &ExpressionStore {
+        &self.store
     }
 }
 

@@ -126,8 +126,8 @@ impl ExpressionStore {
     }
 }
 
-/// Hands on what is reached from a root. It takes no stack by depth. No result of the library has an entry that contains itself. So that a walk
-/// over another one ends, it hands on no more entries than there are.
+/// Hands on what is reached from a root. It takes no stack by depth. No result of the library has an entry that contains itself. So that a
+/// walk over another one ends, it hands on no more entries than there are.
 fn walk<T>(arena: &Arena<T>, root: Idx<T>, f: &mut impl FnMut(Idx<T>), children: impl Fn(&T, &mut Vec<Idx<T>>)) {
     let mut left = vec![root];
     let mut below = Vec::new();

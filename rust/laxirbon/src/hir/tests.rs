@@ -6,7 +6,10 @@ use crate::json::{FromJson, HasKinds, Problem, ReadError, Sizes, Tape, ToJson, W
 
 const PAGE: &str = include_str!("../../../../docs/RESULT.md");
 
-const STORE: &str = r#"{"binding_owners":[],"bindings":[],"exprs":[],"labels":[],"lifetimes":[],"pats":[],"roots":[],"types":[]}"#;
+const STORE: &str =
+    r#"{"binding_owners":[],"bindings":[],"exprs":[],"labels":[],"lifetimes":[],"pats":[],"roots":[],"types":[{"k":"Never"}]}"#;
+
+const GENERIC_PARAMS: &str = r#"{"early_bound_lifetimes_len":0,"lifetimes":[],"type_or_consts":[],"where_predicates":[]}"#;
 
 const ALL: Sizes = Sizes { exprs: 9, pats: 9, bindings: 9, labels: 9, types: 9, lifetimes: 9 };
 
@@ -21,15 +24,15 @@ const PARTS: &[(&str, &str)] = &[
 
 /// The examples of a form, by the name behind the title of the form.
 fn examples(name: &str) -> Vec<String> {
-    let title = format!("(`{name}`)");
+    let title = format!("(`{name}`");
     let start = PAGE.lines().position(|line| line.starts_with("**") && line.contains(&title));
     let behind = PAGE.lines().skip(start.unwrap_or_else(|| panic!("no form {name}")));
     let block = behind.skip_while(|line| *line != "```text").skip(1).take_while(|line| *line != "```");
-    block.map(|line| compact(&whole(line))).collect()
+    block.map(|line| compact_text(&whole_example(line))).collect()
 }
 
 /// The example with a value in place of each `..`, but for those of a result.
-fn whole(example: &str) -> String {
+fn whole_example(example: &str) -> String {
     let mut text = example.replace("[..]", "[]");
     if text.contains("UnresolvedMacroCall") {
         text = text.replace("\"path\": ..", r#""path": {"kind":{"k":"Plain"},"segments":["x"]}"#);
@@ -41,7 +44,7 @@ fn whole(example: &str) -> String {
 }
 
 /// The text without spaces between its values.
-fn compact(text: &str) -> String {
+fn compact_text(text: &str) -> String {
     let mut within = false;
     let keep = |character: &char| {
         within ^= *character == '"';
@@ -54,7 +57,7 @@ fn read<T: FromJson>(text: &str) -> Result<T, ReadError> {
     T::from_json(Tape::new(text)?.root(), &ALL)
 }
 
-fn written(value: &impl ToJson) -> String {
+fn json_of(value: &impl ToJson) -> String {
     let mut out = Writer::default();
     value.to_json(&mut out);
     out.into_text()
@@ -66,7 +69,7 @@ fn check<T: FromJson + ToJson>(name: &str) -> Vec<String> {
     assert!(!examples.is_empty(), "no example of {name}");
     for example in &examples {
         match read::<T>(example) {
-            Ok(value) => assert_eq!(written(&value), *example, "{name}"),
+            Ok(value) => assert_eq!(json_of(&value), *example, "{name}"),
             Err(error) => panic!("{name}: {example}: {error}"),
         }
     }
@@ -95,7 +98,6 @@ fn objects_are_read_and_written() {
     check::<RecordLitField>("RecordLitField");
     check::<Binding>("Binding");
     check::<RecordFieldPat>("RecordFieldPat");
-    check::<TypeParamId>("TypeParamId");
     check::<ModPath>("ModPath");
     check::<ExprRoot>("ExprRoot");
     check::<ExpandedCall>("ExpandedCall");
@@ -137,7 +139,7 @@ macro_rules! check_words {
         $(let mut known = Vec::new();
         for (word, value) in $type::WORDS {
             assert_eq!(read::<$type>(&format!("\"{word}\"")).as_ref(), Ok(value));
-            assert_eq!(written(value), format!("\"{word}\""));
+            assert_eq!(json_of(value), format!("\"{word}\""));
             known.push((*word).to_owned());
         }
         assert_eq!(words(stringify!($type)), known);
@@ -156,9 +158,9 @@ fn words_are_read_and_written_and_none_is_missing() {
 fn arguments_are_nested_by_their_places() {
     let start = PAGE.find("[{\"args\": [{\"k\": \"Type\", \"ty\": 1}]").expect("the example of arguments");
     let end = start + PAGE[start..].find("```").expect("its end");
-    let example = compact(&PAGE[start..end].replace('\n', ""));
+    let example = compact_text(&PAGE[start..end].replace('\n', ""));
     let args: GenericArgs = read(&example).expect("arguments");
-    assert_eq!(written(&args), example);
+    assert_eq!(json_of(&args), example);
     let [binding] = args.bindings.as_slice() else { panic!("one binding") };
     assert_eq!(binding.name.as_text(), Some("B"));
     assert_eq!(binding.args.as_ref().map(|own| own.args.len()), Some(1));
@@ -177,7 +179,7 @@ fn arguments_that_name_others_are_named_once_each() {
     let none = entry("");
     let first = entry(&binding("0"));
     for text in [format!("[{none}]"), format!("[{none},{first}]"), format!("[{}]", entry(&binding("null")))] {
-        assert_eq!(read::<GenericArgs>(&text).map(|args| written(&args)), Ok(text));
+        assert_eq!(read::<GenericArgs>(&text).map(|args| json_of(&args)), Ok(text));
     }
     let twice = entry(&format!("{},{}", binding("0"), binding("0")));
     for text in ["[]".to_owned(), format!("[{none},{none}]"), format!("[{first}]"), format!("[{none},{twice}]")] {
@@ -193,7 +195,7 @@ fn arguments_nest_256_levels() {
         format!("[{}]", entries.join(","))
     };
     let text = nested(256);
-    assert_eq!(read::<GenericArgs>(&text).map(|args| written(&args)), Ok(text));
+    assert_eq!(read::<GenericArgs>(&text).map(|args| json_of(&args)), Ok(text));
     assert!(read::<GenericArgs>(&nested(257)).is_err());
 }
 
@@ -201,7 +203,7 @@ fn arguments_nest_256_levels() {
 fn names_are_texts_numbers_or_missing() {
     for (text, name) in [("\"x\"", Name::Text("x".to_owned())), ("3", Name::Generated(3)), ("false", Name::Missing)] {
         assert_eq!(read::<Name>(text).as_ref(), Ok(&name));
-        assert_eq!(written(&name), text);
+        assert_eq!(json_of(&name), text);
     }
     for text in ["true", "null", "[]", "-1"] {
         assert!(read::<Name>(text).is_err(), "{text}");
@@ -217,9 +219,26 @@ fn ids_are_in_range() {
     assert_eq!(read::<ExprRoot>(&root(10)).map_err(|error| error.problem), Err(Problem::OutOfRange));
 }
 
+/// The only example of a result.
+fn result(name: &str) -> String {
+    let map = json_of(&ExpressionStoreSourceMap::default());
+    let parts = [("source_map", map.as_str()), ("store", STORE), ("generic_params", GENERIC_PARAMS)];
+    let all = examples(name);
+    let [example] = all.as_slice() else { panic!("one example of {name}") };
+    parts.iter().fold(example.clone(), |text, (key, part)| text.replace(&format!("\"{key}\":.."), &format!("\"{key}\":{part}")))
+}
+
+#[test]
+fn results_are_read_and_written() {
+    let (body, ty, function) = (result("lower_body"), result("lower_type_ref"), result("lower_function"));
+    assert_eq!(Body::from_json(&body).map(|body| body.to_json()), Ok(body));
+    assert_eq!(LoweredType::from_json(&ty).map(|ty| ty.to_json()), Ok(ty));
+    assert_eq!(FunctionSignature::from_json(&function).map(|function| function.to_json()), Ok(function));
+}
+
 #[test]
 fn a_result_has_the_format_1() {
-    let map = written(&ExpressionStoreSourceMap::default());
+    let map = json_of(&ExpressionStoreSourceMap::default());
     let text = format!(r#"{{"format":1,"path":null,"source_map":{map},"store":{STORE}}}"#);
     assert_eq!(LoweredPath::from_json(&text).map(|path| path.to_json()), Ok(text.clone()));
     let problem = |text: &str| LoweredPath::from_json(text).map_err(|error| error.problem);

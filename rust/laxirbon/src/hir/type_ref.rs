@@ -174,7 +174,7 @@ pub enum TypeRef {
     DynTrait(Vec<TypeBound>),
     /// The values of a type that a pattern fits.
     Pattern(TypeRefId, PatId),
-    /// What is given for a parameter of an item. If the parameter is an `impl` of an argument, its bounds stand among the item's predicates.
+    /// What is given for a parameter of an item. If that is an `impl` of an argument, its bounds stand among the item's predicates.
     TypeParam(TypeParamId),
 }
 

@@ -43,7 +43,7 @@ impl ObjectMembers<'_> {
 
 impl FromJson for bool {
     fn from_json(value: Value<'_>, _: &Sizes) -> Result<bool, ReadError> {
-        value.as_bool().ok_or(value.error(Problem::Expected("true or false")))
+        value.as_bool().ok_or_else(|| value.error(Problem::Expected("true or false")))
     }
 }
 
@@ -55,7 +55,7 @@ impl ToJson for bool {
 
 impl FromJson for u32 {
     fn from_json(value: Value<'_>, _: &Sizes) -> Result<u32, ReadError> {
-        value.as_u32().ok_or(value.error(Problem::Expected("a number of 32 bits")))
+        value.as_u32().ok_or_else(|| value.error(Problem::Expected("a number of 32 bits")))
     }
 }
 
@@ -67,7 +67,7 @@ impl ToJson for u32 {
 
 impl FromJson for String {
     fn from_json(value: Value<'_>, _: &Sizes) -> Result<String, ReadError> {
-        let text = value.as_str().ok_or(value.error(Problem::Expected("a text")))?;
+        let text = value.as_str().ok_or_else(|| value.error(Problem::Expected("a text")))?;
         Ok(text.into_owned())
     }
 }

@@ -343,7 +343,7 @@ impl<'t> Value<'t> {
         let text = || &self.tape.text[start as usize + 1..end as usize];
         match kind {
             Kind::Plain => Some(Cow::Borrowed(text())),
-            Kind::Escaped => Some(Cow::Owned(unescaped(text()))),
+            Kind::Escaped => Some(Cow::Owned(without_escapes(text()))),
             _ => None,
         }
     }
@@ -406,7 +406,7 @@ impl<'t> ObjectMembers<'t> {
             return Ok(found);
         }
         self.left = self.object.parts();
-        self.next(key).ok_or(self.object.error(Problem::Missing(key)))
+        self.next(key).ok_or_else(|| self.object.error(Problem::Missing(key)))
     }
 
     /// The next member with this key.
@@ -421,7 +421,7 @@ impl<'t> ObjectMembers<'t> {
 }
 
 /// A text without its escapes.
-fn unescaped(text: &str) -> String {
+fn without_escapes(text: &str) -> String {
     let mut left = text;
     let mut plain = String::with_capacity(text.len());
     while let Some(stop) = left.find('\\') {
