@@ -1,6 +1,6 @@
 use Rattle.std.proofs.lemmas.Grind.{common_steps}
 use Rattle.std.proofs.Common.{arith}
-use Rattle.json_nodes.proofs.param_parts.SelfParamsBoxedGroup.boxed.Goals as goal
+use Rattle.json_nodes.proofs.part.boxed_part.Goals as goal
 
 pub returns-in-Ok : goal.returns-in-Ok
 returns-in-Ok c = grind (arith, common_steps)
