@@ -28,12 +28,17 @@ CameOfCall None document (Err (failure.Document f)) = ⊥
 -- the status of a call with room for what it says: that of the program
 abbrev pub status_with_room : {T : Type 0} → Result T Failure → ℕ
 status_with_room (Ok x) = 0
-status_with_room (Err failure) = status_of failure
+status_with_room (Err e) = status_of e
 
--- what is said of what came: a listing as it is; of a failure only that of memory is stated
+-- what is said of what came: what was made of a document as it is; of the failures only that of memory is stated
 abbrev pub Says : Result (String Global) Failure → List ℕ → Type 0
-Says (Ok listing) text = text ≡ string_bytes listing
-Says (Err failure) text = failure ≡ failure.Memory → text ≡ codes "refused: memory\n"
+Says (Ok made) text = text ≡ string_bytes made
+Says (Err failure.Memory) text = text ≡ codes "refused: memory\n"
+Says (Err failure.Usage) text = Unit {0}
+Says (Err failure.Input) text = Unit {0}
+Says (Err failure.Output) text = Unit {0}
+Says (Err failure.Full) text = Unit {0}
+Says (Err (failure.Document f)) text = Unit {0}
 
 -- a text goes to the head of a buffer, with a status; one that is too short stays as it is
 pub record HandsOver (status : ℕ) (text : List ℕ) (answer needed : ℕ) (old new : List ℕ) : Type 0 where
@@ -42,6 +47,10 @@ pub record HandsOver (status : ℕ) (text : List ℕ) (answer needed : ℕ) (old
   pub at_head : needed ≤ length old → take needed new ≡ text
   pub behind : needed ≤ length old → drop needed new ≡ drop needed old
   pub short : length old < needed → (answer ≡ 4) × (new ≡ old)
+
+-- some text does
+abbrev pub HandsOverSome : ℕ → ℕ → ℕ → List ℕ → List ℕ → Type 0
+HandsOverSome status answer needed old new = (text : List ℕ) × HandsOver status text answer needed old new
 
 -- a buffer has what is said of what came
 pub record Reports (came : Result (String Global) Failure) (answer needed : ℕ) (old new : List ℕ) : Type 0 where

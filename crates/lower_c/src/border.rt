@@ -1,7 +1,8 @@
 //! What crosses the border: a text to a buffer of the caller's.
 
-ghost use Rattle.std.specs.Prelude.{◌≡◌, ◌⊎◌, Err};
-ghost use Rattle.lower_c.specs.Answers.{HandsOver, Reports};
+ghost use Rattle.std.specs.Prelude.{◌⊎◌, Err};
+ghost use Rattle.lower_run.specs.Statuses.{status_of};
+ghost use Rattle.lower_c.specs.Answers.{HandsOver, HandsOverSome, Reports};
 
 use lower_run::failure::Failure;
 use std::alloc::Global;
@@ -32,18 +33,27 @@ fn hand_over_refusal(out: &mut [u8], needed: &mut usize) -> u32
     hand_over(REFUSED, NO_MEMORY, out, needed)
 }
 
-/// Hands over why a document isn't lowered. If memory is refused for saying so, that is said.
-fn hand_over_failure(alloc: Global, failure: &Failure, out: &mut [u8], needed: &mut usize) -> u32
-    ensures { Reports (Err failure.now) result needed.new out.old out.new
+/// Hands over what is printed of a failure. If memory is refused for that, that is said.
+fn hand_over_words(alloc: Global, failure: &Failure, out: &mut [u8], needed: &mut usize) -> u32
+    ensures { HandsOverSome (status_of failure.now) result needed.new out.old out.new
         ⊎ Reports (Err Failure.Memory) result needed.new out.old out.new }
 {
-    if matches!(failure, Failure::Memory) {
-        return hand_over_refusal(out, needed);
-    }
     let status = u32::from(failure.status());
     match format!(in alloc; "{}\n", failure) {
         Ok(text) => hand_over(status, text.as_str().as_bytes(), out, needed),
         Err(_) => hand_over_refusal(out, needed),
+    }
+}
+
+/// Hands over why a document isn't lowered.
+fn hand_over_failure(alloc: Global, failure: &Failure, out: &mut [u8], needed: &mut usize) -> u32
+    ensures { Reports (Err failure.now) result needed.new out.old out.new
+        ⊎ Reports (Err Failure.Memory) result needed.new out.old out.new }
+{
+    match failure {
+        Failure::Memory => hand_over_refusal(out, needed),
+        Failure::Usage | Failure::Input | Failure::Output | Failure::Document(_) | Failure::Full =>
+            hand_over_words(alloc, failure, out, needed),
     }
 }
 
@@ -57,7 +67,7 @@ pub fn hand_over_result(
     ensures { Reports came result needed.new out.old out.new ⊎ Reports (Err Failure.Memory) result needed.new out.old out.new }
 {
     match came {
-        Ok(listing) => hand_over(0, listing.as_str().as_bytes(), out, needed),
+        Ok(made) => hand_over(0, made.as_str().as_bytes(), out, needed),
         Err(failure) => hand_over_failure(alloc, &failure, out, needed),
     }
 }
