@@ -25,7 +25,7 @@ from bench import MODES, make
 
 TOP = os.path.dirname(os.path.dirname(os.path.abspath(__file__)))
 CRATE = "lowering_again"
-STANDS_ON = "lower_json hir_lower hir_recorder hir_tables hir_env hir_store hir_items hir_syntax hir_base"
+STANDS_ON = "lower_json hir_lower hir_recorder hir_tables hir_alias hir_env hir_store hir_syntax hir_base"
 SHAPES = ["wide", "calls", "expansions", "splices", "closures", "fors", "arms", "nested", "preludes"]
 NODES = 20_000
 HEADS = ("shape", "nodes", "ns", "bytes", "questions", "ask ns", "log bytes", "part")

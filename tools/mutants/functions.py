@@ -4,7 +4,7 @@ import re
 
 from mutants.edits import text_of
 
-HEAD = re.compile(r"^((?:[ \t]*#\[[^\]]*\]\n)*)([ \t]*)(?:pub(?:\(\w+\))? )?(const )?(?:unsafe )?fn (\w+)", re.M)
+HEAD = re.compile(r'^((?:[ \t]*#\[[^\]]*\]\n)*)([ \t]*)(?:pub(?:\(\w+\))? )?(const )?(?:unsafe )?(?:extern "C" )?fn (\w+)', re.M)
 IN_CLAUSE = re.compile(r"[ \t]*(requires|ensures|ghost)\b")
 CYCLE = re.compile(r"[ \t]*#\[cycle\((\w+)\)\]\n")
 BLOCK = re.compile(r"^(?:pub )?(?:unsafe )?(?:impl|trait|mod)\b[^{;]*", re.M)

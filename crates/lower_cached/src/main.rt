@@ -1,14 +1,15 @@
 //! Lowers the document on standard input once more, with other answers to all that wasn't asked, and prints what it is lowered to then.
 //!
 //! It is called as `lower_tool`, and prints what that prints, as long as a lowering hangs on nothing but what a recorder kept. With the
-//! word `each` in front it says of each answer whether it counts.
+//! word `each` in front it says of each answer whether it counts, and with `log` it prints what is asked.
 #![tactic(auto)]
 
+mod line;
 mod otherwise;
 mod question;
 mod task;
 
-use crate::task::{Again, Each};
+use crate::task::{Again, Each, Log};
 use lower_run::failure::Failure;
 use lower_run::run::run;
 use std::env;
@@ -30,6 +31,16 @@ fn status_of(rt: &HostRuntime, words: &[String]) -> u8 {
             run(
                 alloc,
                 &Each,
+                behind,
+                input,
+                &mut rt.stdout(),
+                &mut rt.stderr(),
+            )
+        }
+        [first, behind @ ..] if first.as_str() == "log" => {
+            run(
+                alloc,
+                &Log,
                 behind,
                 input,
                 &mut rt.stdout(),

@@ -2,6 +2,7 @@
 
 ghost use Rattle.std.specs.Prelude.{◌≡◌, ◌⊎◌, IfErr};
 
+use crate::line::Line;
 use crate::otherwise::Otherwise;
 use crate::question::sort_of;
 use hir_alias::signature::AliasSignature;
@@ -23,6 +24,10 @@ pub struct Again;
 /// A line for each answer: its sort, and whether the tree is lowered to something else where that alone is answered otherwise.
 #[derive(Clone, Copy)]
 pub struct Each;
+
+/// A line for each question that is asked for its tree, in order.
+#[derive(Clone, Copy)]
+pub struct Log;
 
 fn other_item(item: Option<LangItemId>) -> Option<LangItemId> {
     match item {
@@ -115,6 +120,19 @@ impl Lists for Again {
     fn listing(&self, alloc: Global, mode: Mode, document: &Document) -> Result<String, Failure> {
         let (_, asked) = recorded(alloc, mode, document)?;
         listed_otherwise(alloc, mode, document, asked.as_slice(), None)
+    }
+}
+
+impl Lists for Log {
+    fn listing(&self, alloc: Global, mode: Mode, document: &Document) -> Result<String, Failure> {
+        let (_, asked) = recorded(alloc, mode, document)?;
+        let mut lines = String::new(alloc);
+        for one in asked.as_slice() {
+            if writeln!(lines, "{}", Line(one)).is_err() {
+                return Err(Failure::Memory);
+            }
+        }
+        Ok(lines)
     }
 }
 

@@ -1,10 +1,11 @@
 -- Lowering doesn't look inside of what is disabled, so what is asked there doesn't matter to it.
-use Rattle.std.specs.Prelude.{◌≡◌, Bool, List, [], ◌∷◌, Option, Some, is_some}
+use Rattle.std.specs.Prelude.{◌≡◌, Bool, true, List, [], ◌∷◌, Option, Some, is_some}
 use Rattle.hir_syntax.specs.declared.ast.BlockExpr.{BlockExpr as AstBlockExpr, out-BlockExpr}
 use Rattle.hir_syntax.specs.declared.ast.Expr.{Expr as AstExpr}
 use Rattle.hir_syntax.specs.declared.ast.Name.{Name as AstName}
 use Rattle.hir_syntax.specs.declared.ast.Path.{Path as AstPath, out-Path}
 use Rattle.hir_syntax.specs.declared.params.ParamList.{ParamList as AstParamList}
+use Rattle.hir_syntax.specs.declared.params.SelfParam.{SelfParam as AstSelfParam}
 use Rattle.hir_syntax.specs.declared.pats.Pat.{Pat as AstPat}
 use Rattle.hir_syntax.specs.declared.types.Param.{Param as AstParam, out-Param}
 use Rattle.hir_syntax.specs.declared.types.Type_.{Type_ as AstType_}
@@ -24,14 +25,16 @@ use Rattle.hir_env.specs.Wrapped.{AstGuard, AstLetElse}
 use Rattle.hir_env.specs.declared.ctx.LowerCtx.{LowerCtx}
 use Rattle.thm_frame.specs.Theorems.{BodyRead, body_at, with_limit, rctx}
 use Rattle.thm_frame.specs.Questions.{AllAlike, of_cfg}
+use Rattle.thm_reading.specs.Formals as formal
 use Rattle.thm_reading.specs.Formals.{FormalsAs}
-use Rattle.thm_reading.specs.LowerCtx.{IsDisabled, block_node, expr_kind, expr_node, param_node, site, type_kind, type_node}
+use Rattle.thm_reading.specs.LowerCtx.{IsDisabled, block_node, expr_kind, expr_node, node, param_node, site, type_kind, type_node}
 use Rattle.thm_reading.specs.Rules as rule
 use Rattle.thm_reading.specs.Rules.{ExprAs, ExprKindAs, FieldPartAs, GuardAs, LetElseAs, OptExprAs, OptPatAs, OptTypeAs, OwnAs}
 use Rattle.thm_reading.specs.Rules.{ParamsAs, PathAs, TypeKindAs}
-use Rattle.thm_enabled.specs.Asked.{asked_arm, asked_expr, asked_field, asked_for_body, asked_params, asked_stmt}
+use Rattle.thm_reading.specs.Shapes.{is_call}
+use Rattle.thm_enabled.specs.Asked.{asked_arm, asked_expr, asked_field, asked_for_body, asked_params, asked_stmt, asked_value}
 use Rattle.thm_enabled.specs.Asks.{listed}
-use Rattle.thm_enabled.specs.Body.{asked_body}
+use Rattle.thm_enabled.specs.Body.{asked_body, asked_formal, asked_self}
 use Rattle.thm_enabled.specs.Pruned.{pruned, pruned_part}
 use Rattle.thm_enabled.specs.Whole.{whole_path, whole_type_kind}
 use Rattle.hir_lower_builder.specs.Lower.{ExprSteps, lower, lower_part, lower_path, lower_type}
@@ -44,8 +47,9 @@ ExprsPruned = (e : Expr) → lower (pruned e) ≡ lower e
 abbrev pub PartsPruned : Type 0
 PartsPruned = (e : OptionExpr) → lower_part (pruned_part e) ≡ lower_part e
 
--- Of what is disabled the list has the condition alone: of an expression, a `let`, a definition of a macro, a field, an arm, the body of a
--- `for`, and a parameter, behind which the other parameters follow.
+-- Of what is disabled the list has the condition alone: of an expression, a call that stands for statements, a `let`, a definition of a
+-- macro, a field, an arm, the body of a `for`, a parameter of a body, its `self`, and a parameter of a closure, behind which the others
+-- follow.
 abbrev pub OfDisabledExprs : Type 0
 OfDisabledExprs = (a : Answers) (p : LowerCtx) (s : Pointer) (k : ExprKindLayer written) (x : Expr) (by : CfgId) (is : IsDisabled a s by)
     (h : ExprKindAs a p s k x) → listed (asked_expr a (rule.disabled {s = s} is h)) ≡ of_cfg (site s) ∷ []
@@ -69,6 +73,23 @@ OfDisabledArms = (a : Answers) (p : LowerCtx) (s : Pointer) (q : Option AstPat) 
 abbrev pub OfDisabledDefinitions : Type 0
 OfDisabledDefinitions = (a : Answers) (p : LowerCtx) (s : Pointer) (n : Option AstName) (d : Defined) (by : CfgId) (is : IsDisabled a s by)
     → listed (asked_stmt a (rule.disabled_def {p = p} {s = s} {n = n} {d = d} is)) ≡ of_cfg (site s) ∷ []
+
+abbrev pub OfDisabledRules : Type 0
+OfDisabledRules = (a : Answers) (p : LowerCtx) (s : Pointer) (n : Option AstName) (d : Defined) (by : CfgId) (is : IsDisabled a s by)
+    → listed (asked_stmt a (rule.disabled_rules {p = p} {s = s} {n = n} {d = d} is)) ≡ of_cfg (site s) ∷ []
+
+abbrev pub OfDisabledValues : Type 0
+OfDisabledValues = (a : Answers) (p : LowerCtx) (s : Pointer) (k : ExprKindLayer written) (d : Defined) (by : CfgId)
+    (call : is_call k ≡ true) (is : IsDisabled a s by)
+    → listed (asked_value a (rule.disabled_value {p = p} {s = s} {k = k} {d = d} call is)) ≡ of_cfg (site s) ∷ []
+
+abbrev pub OfDisabledSelves : Type 0
+OfDisabledSelves = (a : Answers) (p : LowerCtx) (x : AstSelfParam) (by : CfgId) (is : IsDisabled a (node p x.id x.range) by)
+    → listed (asked_self a (formal.disabled_self {p = p} {x = x} is)) ≡ of_cfg (site (node p x.id x.range)) ∷ []
+
+abbrev pub OfDisabledFormals : Type 0
+OfDisabledFormals = (a : Answers) (p : LowerCtx) (bare : Bool) (x : AstParam) (by : CfgId) (is : IsDisabled a (param_node p x) by)
+    → listed (asked_formal a (formal.disabled_formal {p = p} {bare = bare} {x = x} is)) ≡ of_cfg (site (param_node p x)) ∷ []
 
 abbrev pub OfDisabledBodies : Type 0
 OfDisabledBodies = (a : Answers) (p : LowerCtx) (b : AstBlockExpr) (x : Expr) (by : CfgId) (is : IsDisabled a (block_node p b) by)

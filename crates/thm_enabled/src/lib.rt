@@ -6,7 +6,8 @@
 ghost use Rattle.thm_enabled.specs.Theorems.{ExprsAsked, OutsideAsked, OutsideBodies, PathsAsked, PatsAsked, TypesAsked};
 ghost use Rattle.thm_enabled.specs.Lowered.{BodiesKept, BodiesLowered, ExprsKept, ExprsPruned, PartsPruned, PathsKept, TypesKept};
 ghost use Rattle.thm_enabled.specs.Lowered.{OfDisabledArms, OfDisabledBodies, OfDisabledDefinitions, OfDisabledExprs, OfDisabledFields};
-ghost use Rattle.thm_enabled.specs.Lowered.{OfDisabledLets, OfDisabledParams};
+ghost use Rattle.thm_enabled.specs.Lowered.{OfDisabledFormals, OfDisabledLets, OfDisabledParams, OfDisabledRules, OfDisabledSelves};
+ghost use Rattle.thm_enabled.specs.Lowered.{OfDisabledValues};
 
 use thm_reading::{formals_by_rules, one_tree_by_rules, read_by_rules};
 
@@ -33,13 +34,18 @@ pub fn outside_lists()
     one_tree_by_rules();
 }
 
-/// What is asked of a disabled parameter, expression, body of a `for`, `let`, definition of a macro, field or arm is its condition alone.
+/// What is asked of a disabled parameter, `self`, expression, call that stands for statements, body of a `for`, `let`, definition of a
+/// macro, field or arm is its condition alone.
 pub fn of_disabled()
     ensures params { OfDisabledParams }
+    ensures formals { OfDisabledFormals }
+    ensures selves { OfDisabledSelves }
     ensures exprs { OfDisabledExprs }
     ensures bodies { OfDisabledBodies }
     ensures lets { OfDisabledLets }
+    ensures values { OfDisabledValues }
     ensures definitions { OfDisabledDefinitions }
+    ensures rules { OfDisabledRules }
     ensures fields { OfDisabledFields }
     ensures arms { OfDisabledArms }
 {}

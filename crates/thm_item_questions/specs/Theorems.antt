@@ -17,7 +17,7 @@ use Rattle.hir_env.specs.declared.ctx.LowerCtx.{LowerCtx}
 use Rattle.hir_lower_item.specs.Answering.{param_pointer}
 use Rattle.thm_frame.specs.Theorems.{rctx}
 use Rattle.thm_frame.specs.Questions.{AllAlike, AllIn, Area, Here, of_cfg}
-use Rattle.thm_questions.specs.Areas.{AgreesAtNodes, AllInNodes, Holds, NodeArea}
+use Rattle.thm_questions.specs.Areas.{AgreesAtNodes, AllInNodes, Holds, NodeArea, elsewhere}
 use Rattle.thm_questions.specs.Asked.{own_site}
 use Rattle.thm_item_frame.specs.Theorems.{alias_at, function_at, generics_at, impl_at, in_container, trait_at}
 use Rattle.thm_item_questions.specs.Lists.{alias_questions, argument_in, function_questions, generics_questions, impl_questions, param_in}
@@ -68,29 +68,31 @@ abbrev pub AliasesAtNodes : Type 0
 AliasesAtNodes = (a : Answers) (area : NodeArea a) (p : LowerCtx) (def : GenericDefId) (container : ItemContainerId) (x : TypeAlias)
     → Holds area (in_container a container p) (alias_nodes x) → AllInNodes area (alias_questions a p def container x)
 
--- So an environment that answers alike what may be asked there reads the same.
+-- So an environment reads the same that answers alike what may be asked there, and those of the list that are about no node and asked in no
+-- module.
 
 abbrev pub GenericsKeepNodes : Type 0
 GenericsKeepNodes = (a : Answers) (area : NodeArea a) (b : Answers) → AgreesAtNodes area b → (p : LowerCtx) (def : GenericDefId)
     (ps : Option (List GenericParam)) (ws : Option (List WherePred)) → Holds area p (generics_nodes ps ws)
-    → generics_at a p def ps ws ≡ generics_at b p def ps ws
+    → AllAlike a b (elsewhere (generics_questions a p def ps ws)) → generics_at a p def ps ws ≡ generics_at b p def ps ws
 
 abbrev pub FunctionsKeepNodes : Type 0
 FunctionsKeepNodes = (a : Answers) (area : NodeArea a) (b : Answers) → AgreesAtNodes area b → (p : LowerCtx) (def : GenericDefId) (x : Fn)
-    → Holds area p (function_nodes x) → function_at a p def x ≡ function_at b p def x
+    → Holds area p (function_nodes x) → AllAlike a b (elsewhere (function_questions a p def x))
+    → function_at a p def x ≡ function_at b p def x
 
 abbrev pub ImplsKeepNodes : Type 0
 ImplsKeepNodes = (a : Answers) (area : NodeArea a) (b : Answers) → AgreesAtNodes area b → (p : LowerCtx) (def : GenericDefId) (x : Impl)
-    → Holds area p (impl_nodes x) → impl_at a p def x ≡ impl_at b p def x
+    → Holds area p (impl_nodes x) → AllAlike a b (elsewhere (impl_questions a p def x)) → impl_at a p def x ≡ impl_at b p def x
 
 abbrev pub TraitsKeepNodes : Type 0
 TraitsKeepNodes = (a : Answers) (area : NodeArea a) (b : Answers) → AgreesAtNodes area b → (p : LowerCtx) (def : GenericDefId) (x : Trait)
-    → Holds area p (trait_nodes x) → trait_at a p def x ≡ trait_at b p def x
+    → Holds area p (trait_nodes x) → AllAlike a b (elsewhere (trait_questions a p def x)) → trait_at a p def x ≡ trait_at b p def x
 
 abbrev pub AliasesKeepNodes : Type 0
 AliasesKeepNodes = (a : Answers) (area : NodeArea a) (b : Answers) → AgreesAtNodes area b → (p : LowerCtx) (def : GenericDefId)
     (container : ItemContainerId) (x : TypeAlias) → Holds area (in_container a container p) (alias_nodes x)
-    → alias_at a p def container x ≡ alias_at b p def container x
+    → AllAlike a b (elsewhere (alias_questions a p def container x)) → alias_at a p def container x ≡ alias_at b p def container x
 
 -- What is asked of an item that stands in files and modules which are closed under expansions and blocks is asked there.
 

@@ -1,5 +1,5 @@
 -- Parameters and body of an item are framed by what is asked of the item, of them and of how many calls may be entered.
-use Rattle.std.proofs.Common.{◌≡◌, ◌∙◌, refl, Bool, true, List, [], ◌∷◌, ◌++◌, Option, Some, None, is_some, codes}
+use Rattle.std.proofs.Common.{◌≡◌, ◌∙◌, refl, if◌then◌else◌, Bool, true, false, List, [], ◌∷◌, Option, Some, None, is_some, codes}
 use Rattle.hir_base.specs.declared.node.HirFileId.{HirFileId}
 use Rattle.hir_base.specs.declared.node.NodeId.{NodeId}
 use Rattle.hir_syntax.specs.declared.ast.Expr.{Expr as AstExpr}
@@ -16,14 +16,13 @@ use Rattle.hir_env.specs.Formals as of
 use Rattle.hir_env.specs.Whole.{expr_part, pat_part, pointer_at}
 use Rattle.hir_env.specs.declared.ctx.LowerCtx.{LowerCtx}
 use Rattle.thm_frame.specs.Theorems.{body_at, with_limit, rctx}
-use Rattle.thm_frame.specs.Questions as question
 use Rattle.thm_frame.specs.Questions.{AllAlike, Question}
 use Rattle.thm_questions.specs.Lists as list
-use Rattle.thm_questions.specs.Areas.{AgreesAtNodes, AllInNodes, AllThere, Holds, NodeArea}
+use Rattle.thm_questions.specs.Areas.{AgreesAtNodes, AllInNodes, AllThere, Holds, NodeArea, elsewhere, is_placed}
 use Rattle.thm_questions.specs.Nodes as node
 use Rattle.thm_questions.specs.Parts.{of_each, of_option}
 use Rattle.thm_questions.proofs.Asks.{cfg_asked, name_by}
-use Rattle.thm_questions.proofs.Framing.{At, ByList, first_alike, one, rest_alike, still, two}
+use Rattle.thm_questions.proofs.Framing.{At, ByList, all_in, first_alike, one, rest_alike, still, two}
 use Rattle.thm_questions.proofs.Tree.{below, of_expr, of_pat}
 
 -- all nodes and all modules, which are closed
@@ -90,31 +89,41 @@ module _ (a : Answers) (area : NodeArea a) where
         read = (body ∙ (λ j. expr_part (rctx (record p { left = h.1.1.0 j }) b) e)) i;
       }
 
-  -- where all that may be asked there is answered alike
-  alike_there : (b : Answers) → AgreesAtNodes area b → (qs : List Question) → AllInNodes area qs → AllAlike a b qs
-  alike_there b h [] k = tt
-  alike_there b h (q ∷ qs) k = (h q k.0, alike_there b h qs k.1)
+  -- where all that may be asked there is answered alike, and so is what of a list is asked elsewhere
+  pub alike_there : (b : Answers) → AgreesAtNodes area b → (qs : List Question) → AllInNodes area qs → AllAlike a b (elsewhere qs)
+      → AllAlike a b qs
+  alike_there b h [] k l = tt
+  alike_there b h (q ∷ qs) k l = by (is_placed q) refl (alike_there b h qs k.1) l
+    where
+      by : (placed : Bool) → is_placed q ≡ placed → (AllAlike a b (elsewhere qs) → AllAlike a b qs)
+          → AllAlike a b (if placed then elsewhere qs else q ∷ elsewhere qs) → AllAlike a b (q ∷ qs)
+      by true is rest l = (h q is k.0, rest l)
+      by false is rest l = (l.0, rest l.1)
 
   pub keeps : (b : Answers) → AgreesAtNodes area b → {X : Type 0} {f : HirFileId} {m : ModuleId} {ns : List NodeId} {made : Answers → X}
-      {qs : List Question} → ByList area f m ns made qs → area.inside m ≡ true → AllThere area f ns → made a ≡ made b
-  keeps b h {qs = qs} x i k = x.same b (alike_there b h qs (x.there i k))
+      {qs : List Question} → ByList area f m ns made qs → area.inside m ≡ true → AllThere area f ns → AllAlike a b (elsewhere qs)
+      → made a ≡ made b
+  keeps b h {qs = qs} x i k l = x.same b (alike_there b h qs (x.there i k) l)
 
-  both_alike : (b : Answers) (qs rs : List Question) → AllAlike a b qs → AllAlike a b rs → AllAlike a b (qs ++ rs)
-  both_alike b [] rs h k = k
-  both_alike b (q ∷ qs) rs h k = (h.0, both_alike b qs rs h.1 k)
-
-  pub bodies_keep : (b : Answers) → AgreesAtNodes area b → (item : DefWithBodyId) (p q : LowerCtx) (ps : Option AstParamList)
-      (e : Option AstExpr) → Holds area p (of_option node.nodes_of e) → Holds area q (node.formals_nodes ps)
-      → body_at a item p q ps e ≡ body_at b item p q ps e
-  bodies_keep b h item p q ps e in_p in_q = bodies_alike b item p q ps e (
-    h (question.of_skip item) (tt {0}),
+  -- a body with its parameters, whose item and limit are asked of elsewhere
+  pub body_there : (item : DefWithBodyId) (p q : LowerCtx) (ps : Option AstParamList) (e : Option AstExpr)
+      → Holds area p (of_option node.nodes_of e) → Holds area q (node.formals_nodes ps)
+      → AllInNodes area (list.body_questions a item p q ps e)
+  body_there item p q ps e in_p in_q = (
+    tt {0},
     (
-      h (question.of_container item) (tt {0}),
+      tt {0},
       (
-        h question.of_expansion_limit (tt {0}),
-        both_alike b (in_formals q ps) (in_body p e)
-            (alike_there b h _ ((formals_by (with_limit q a) (of.are_bare (a.container item) (is_some e)) ps).there in_q.0 in_q.1))
-            (alike_there b h _ ((part_by (with_limit p a) e).there in_p.0 in_p.1)),
+        tt {0},
+        all_in area (in_formals q ps) (in_body p e)
+            ((formals_by (with_limit q a) (of.are_bare (a.container item) (is_some e)) ps).there in_q.0 in_q.1)
+            ((part_by (with_limit p a) e).there in_p.0 in_p.1),
       ),
     ),
   )
+
+  pub bodies_keep : (b : Answers) → AgreesAtNodes area b → (item : DefWithBodyId) (p q : LowerCtx) (ps : Option AstParamList)
+      (e : Option AstExpr) → Holds area p (of_option node.nodes_of e) → Holds area q (node.formals_nodes ps)
+      → AllAlike a b (elsewhere (list.body_questions a item p q ps e)) → body_at a item p q ps e ≡ body_at b item p q ps e
+  bodies_keep b h item p q ps e in_p in_q l =
+      bodies_alike b item p q ps e (alike_there b h (list.body_questions a item p q ps e) (body_there item p q ps e in_p in_q) l)

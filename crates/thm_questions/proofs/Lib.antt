@@ -12,3 +12,4 @@ pub mod Tree
 pub mod Bodies
 pub mod Files
 pub mod Forms
+mod PathForms

@@ -1,5 +1,5 @@
 -- Sets of nodes and of modules, and what may be asked there.
-use Rattle.std.specs.Prelude.{◌≡◌, Bool, true, List, [], ◌∷◌, Option, Some}
+use Rattle.std.specs.Prelude.{◌≡◌, if◌then◌else◌, Bool, true, false, List, [], ◌∷◌, Option, Some}
 use Rattle.hir_base.specs.declared.node.HirFileId.{HirFileId}
 use Rattle.hir_base.specs.declared.node.NodeId.{NodeId}
 use Rattle.hir_syntax.specs.declared.macros.Fragment.{Fragment as AstFragment}
@@ -50,6 +50,24 @@ abbrev pub AllInNodes : {a : Answers} → NodeArea a → List Question → Type 
 AllInNodes area [] = Unit {0}
 AllInNodes area (q ∷ qs) = InNodes area q × AllInNodes area qs
 
--- another environment that answers whatever may be asked in the area alike
+-- whether a question is about a node or asked in a module
+abbrev pub is_placed : Question → Bool
+is_placed (of_cfg s) = true
+is_placed (of_hygiene s) = true
+is_placed (of_context s) = true
+is_placed (of_block s m) = true
+is_placed (of_resolve m x s) = true
+is_placed (of_new_range m) = true
+is_placed (of_expand s c m k) = true
+is_placed (of_macro_def m n) = true
+is_placed (of_legacy_macro m n k) = true
+is_placed _ = false
+
+-- those of a list that are about no node and asked in no module
+abbrev pub elsewhere : List Question → List Question
+elsewhere [] = []
+elsewhere (q ∷ qs) = if is_placed q then elsewhere qs else q ∷ elsewhere qs
+
+-- another environment that answers alike whatever may be asked about these nodes and in these modules
 abbrev pub AgreesAtNodes : {a : Answers} → NodeArea a → Answers → Type 0
-AgreesAtNodes {a} area b = (q : Question) → InNodes area q → Alike a b q
+AgreesAtNodes {a} area b = (q : Question) → is_placed q ≡ true → InNodes area q → Alike a b q

@@ -3,9 +3,9 @@
 #![tactic(auto)]
 
 ghost use Rattle.thm_questions.specs.Forms.{AssignmentAsks, BlockAsks, EnteredCallAsks, ForAsks, LimitedCallAsks, LiteralAsks};
-ghost use Rattle.thm_questions.specs.Forms.{PathAsks, QuestionAsks, UnresolvedCallAsks};
+ghost use Rattle.thm_questions.specs.Forms.{DollarCrateAsks, PathAloneAsks, PathAsks, PlainNameAsks, QuestionAsks, UnresolvedCallAsks};
 ghost use Rattle.thm_questions.specs.Theorems.{BodiesByList, BodiesKeepNodes, ExprsAtNodes, ExprsByList, ExprsInFiles, ExprsKeepNodes};
-ghost use Rattle.thm_questions.specs.Theorems.{PathsAtNodes, PathsByList, PathsInFiles, PathsKeepNodes, PatsAtNodes, PatsByList};
+ghost use Rattle.thm_questions.specs.Theorems.{ListsKeepNodes, PathsAtNodes, PathsByList, PathsInFiles, PathsKeepNodes, PatsAtNodes, PatsByList};
 ghost use Rattle.thm_questions.specs.Theorems.{PatsInFiles};
 ghost use Rattle.thm_questions.specs.Theorems.{PatsKeepNodes, TypesAtNodes, TypesByList, TypesInFiles, TypesKeepNodes};
 
@@ -32,8 +32,10 @@ pub fn at_nodes()
 {}
 
 /// An environment that answers alike every question about the nodes of a tree and of what its calls stand for, every one that is asked in
-/// its modules, and every one about no node and in no module, reads the same; so it is with a body and its parameters.
+/// its modules, and those of a list that are about no node and in no module, answers the list alike and reads the same; so it is with a body
+/// and its parameters.
 pub fn keep_nodes()
+    ensures lists { ListsKeepNodes }
     ensures types { TypesKeepNodes }
     ensures paths { PathsKeepNodes }
     ensures pats { PatsKeepNodes }
@@ -53,6 +55,14 @@ pub fn in_files()
 pub fn leaves_ask()
     ensures literal { LiteralAsks }
     ensures path { PathAsks }
+{}
+
+/// A path asks what its segments and the use trees around it ask, the root of a crate if it is one segment that stands directly in a macro
+/// call, and its alias in an argument. A plain name without arguments asks nothing, and `$crate` the root of its crate.
+pub fn paths_ask()
+    ensures alone { PathAloneAsks }
+    ensures plain_name { PlainNameAsks }
+    ensures dollar_crate { DollarCrateAsks }
 {}
 
 /// A call asks nothing where none may be entered, its expansion alone where that is unresolved, and else what it stands for, too.

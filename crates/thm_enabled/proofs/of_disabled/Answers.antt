@@ -21,3 +21,15 @@ returns-clause-bodies c = λ a p b x by is h. refl
 
 pub returns-clause-definitions : goal.returns-clause-definitions
 returns-clause-definitions c = λ a p s n d by is. refl
+
+pub returns-clause-rules : goal.returns-clause-rules
+returns-clause-rules c = λ a p s n d by is. refl
+
+pub returns-clause-values : goal.returns-clause-values
+returns-clause-values c = λ a p s k d by call is. refl
+
+pub returns-clause-selves : goal.returns-clause-selves
+returns-clause-selves c = λ a p x by is. refl
+
+pub returns-clause-formals : goal.returns-clause-formals
+returns-clause-formals c = λ a p bare x by is. refl
