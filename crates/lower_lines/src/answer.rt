@@ -10,8 +10,8 @@ use crate::call::Form;
 use crate::detail::Detail;
 use crate::result::result_text;
 use lower_run::failure::Failure;
-use lower_run::lowered::Lowered;
 use lower_run::mode::Mode;
+use lower_run::results::LoweringResult;
 use lower_run::run::{listing_among_many, lowered_among_many};
 use serde_json::{Value, json};
 use std::alloc::{AllocError, Global};
@@ -21,7 +21,7 @@ use std::alloc::{AllocError, Global};
 pub enum Answer {
     Listing(String),
     /// All that it is lowered to.
-    Lowered(Lowered),
+    Json(LoweringResult),
     /// Why there is no result.
     Fault(Failure, Detail),
 }
@@ -36,7 +36,7 @@ impl Answer {
     {
         let done = match form {
             Form::Listing => listing_among_many(alloc, mode, line).map(Answer::Listing),
-            Form::Json => lowered_among_many(alloc, mode, line).map(Answer::Lowered),
+            Form::Json => lowered_among_many(alloc, mode, line).map(Answer::Json),
         };
         match done {
             Ok(answer) => answer,
@@ -52,7 +52,7 @@ impl Answer {
         ensures { result ≡ status_of_answer self.now }
     {
         match self {
-            Answer::Listing(_) | Answer::Lowered(_) => 0,
+            Answer::Listing(_) | Answer::Json(_) => 0,
             Answer::Fault(failure, _) => failure.status(),
         }
     }
@@ -63,7 +63,7 @@ impl Answer {
     {
         match self {
             Answer::Listing(listing) => listing_text(alloc, listing.as_str()),
-            Answer::Lowered(lowered) => result_text(alloc, lowered),
+            Answer::Json(lowered) => result_text(alloc, lowered),
             Answer::Fault(failure, detail) => fault_text(alloc, failure, detail),
         }
     }
@@ -105,7 +105,7 @@ fn fault_json(alloc: Global, status: u8, text: &str, detail: &Detail) -> Result<
             let column = at.column as u64;
             json!(in alloc; {"fault": {"column": column, "line": line, "status": status, "text": text}})
         }
-        Detail::Unread(member) => {
+        Detail::Member(member) => {
             let node = member.node as u64;
             let name = member.name.as_str();
             json!(in alloc; {"fault": {"hint": {"member": name, "node": node}, "status": status, "text": text}})
