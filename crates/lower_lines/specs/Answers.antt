@@ -1,10 +1,10 @@
 -- What is answered to a document.
-use Rattle.std.specs.Prelude.{◌≡◌, ℕ, List, [], ◌∷◌, ◌++◌, codes, Some, Err, string_bytes}
+use Rattle.std.specs.Prelude.{◌≡◌, ℕ, List, [], ◌∷◌, ◌++◌, codes, Some, string_bytes}
 use Rattle.serde_json.specs.Data.{Data, Members, object, member, no_members, number, string, unsigned}
 use Rattle.serde_json.specs.Read.{read}
 use Rattle.serde_json.specs.Written.{compact_text}
 use Rattle.thm_result_json.specs.Results as forms
-use Rattle.lower_run.specs.Answers.{CameOf, SaysSome}
+use Rattle.lower_run.specs.Answers.{FailsWith, SaysSome}
 use Rattle.lower_run.specs.Statuses.{status_of}
 use Rattle.lower_run.specs.declared.results.LoweringResult.{LoweringResult}
 use Rattle.lower_run.specs.declared.results.LoweringResult.TheVariants as lowered
@@ -21,7 +21,7 @@ use Rattle.lower_lines.specs.declared.detail.Member.{Member}
 abbrev pub IsAnswerTo : Mode → Form → List ℕ → Answer → Type 0
 IsAnswerTo mode f line (answer.Listing text) = (f ≡ form.Listing) × SaysSome mode line
 IsAnswerTo mode f line (answer.Json l) = (f ≡ form.Json) × SaysSome mode line
-IsAnswerTo mode f line (answer.Fault failure d) = CameOf {T = Unit {0}} mode line (Err failure)
+IsAnswerTo mode f line (answer.Fault failure d) = FailsWith mode line failure
 
 -- the status with which a single call for the document ends
 abbrev pub status_of_answer : Answer → ℕ

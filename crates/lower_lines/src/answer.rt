@@ -30,20 +30,39 @@ pub enum Answer {
 pub const REFUSED: &str = "{\"fault\":{\"status\":3,\"text\":\"refused: memory\"}}\n";
 
 impl Answer {
+    /// What is answered to a document that isn't lowered.
+    fn of_failure(alloc: Global, line: &[u8], failure: Failure) -> Answer
+        ensures { (detail : Detail) × (result ≡ Answer.Fault failure detail) }
+    {
+        let detail = Detail::of(alloc, &failure, line);
+        Answer::Fault(failure, detail)
+    }
+
+    fn with_listing(alloc: Global, mode: Mode, line: &[u8]) -> Answer
+        ensures { IsAnswerTo mode Form.Listing line.now result }
+    {
+        match listing_among_many(alloc, mode, line) {
+            Ok(listing) => Answer::Listing(listing),
+            Err(failure) => Answer::of_failure(alloc, line, failure),
+        }
+    }
+
+    fn with_result(alloc: Global, mode: Mode, line: &[u8]) -> Answer
+        ensures { IsAnswerTo mode Form.Json line.now result }
+    {
+        match lowered_among_many(alloc, mode, line) {
+            Ok(lowered) => Answer::Json(lowered),
+            Err(failure) => Answer::of_failure(alloc, line, failure),
+        }
+    }
+
     /// What is answered to the document that a line is in a mode.
     pub fn of(alloc: Global, mode: Mode, form: Form, line: &[u8]) -> Answer
         ensures { IsAnswerTo mode form line.now result }
     {
-        let done = match form {
-            Form::Listing => listing_among_many(alloc, mode, line).map(Answer::Listing),
-            Form::Json => lowered_among_many(alloc, mode, line).map(Answer::Json),
-        };
-        match done {
-            Ok(answer) => answer,
-            Err(failure) => {
-                let detail = Detail::of(alloc, &failure, line);
-                Answer::Fault(failure, detail)
-            }
+        match form {
+            Form::Listing => Answer::with_listing(alloc, mode, line),
+            Form::Json => Answer::with_result(alloc, mode, line),
         }
     }
 

@@ -63,11 +63,22 @@ fn place_in(alloc: Global, document: &[u8]) -> Option<Place> {
                 column: error.column(),
             }),
         },
-        Err(error) => Some(Place {
-            line: 1,
-            column: error.valid_up_to().saturating_add(1),
-        }),
+        Err(error) => Some(place_at(document, error.valid_up_to())),
     }
+}
+
+/// Where a byte stands in a text.
+fn place_at(document: &[u8], at: usize) -> Place {
+    let mut place = Place { line: 1, column: 1 };
+    for byte in document.iter().take(at) {
+        if *byte == b'\n' {
+            place.line = place.line.saturating_add(1);
+            place.column = 1;
+        } else {
+            place.column = place.column.saturating_add(1);
+        }
+    }
+    place
 }
 
 /// Whether a member names a node, alone or in a list.

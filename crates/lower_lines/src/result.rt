@@ -23,7 +23,9 @@ fn write_lowered_body(out: &mut Writer, lowered: &LoweredBody) -> Result<(), All
     )
 }
 
-fn write_lowered_function(out: &mut Writer, lowered: &LoweredFunction) -> Result<(), AllocError> {
+fn write_lowered_function(out: &mut Writer, lowered: &LoweredFunction) -> Result<(), AllocError>
+    ensures { OnOk result (Appends (result_data (variant.Function lowered.now)) out.old out.new) }
+{
     write_function(
         out,
         &lowered.store,
