@@ -3,8 +3,8 @@
 
     bench/lines.py [--program PATH] [--nodes NODES] [--shape NAME].. [--documents COUNT]..
 
-The first table has a line for each shape of bench/bench.py, of which one document is lowered: CPU seconds, peak memory and the length of the
-answer, of the listing and of the result as JSON. Both are made of the same store, so what differs is the writing.
+The first table has a line for each shape of bench/bench.py, of which one document is lowered: CPU seconds, peak memory and the length of
+the answer, of the listing and of the result as JSON. Both are made of the same store, so what differs is the writing.
 
 The second has a line for each count of documents: those of tests/front_end, over and over, in mode `body`. It has CPU milliseconds a
 document and the peak memory, for listings and for results as JSON. Memory that grows with the count is memory that isn't let go of.

@@ -46,6 +46,10 @@ enum laxirbon_status {
    that of what is said in its place. No zero byte follows, and bytes of `out` behind that length are unchanged. */
 uint32_t laxirbon_lower(uint32_t mode, const uint8_t *document, size_t document_len, uint8_t *out, size_t out_len, size_t *needed);
 
+/* The same with all that the document is lowered to, as JSON, in place of the listing: the store, the source map, and what is answered
+   beside them (docs/RESULT.md). What is said in place of a result is the same text. */
+uint32_t laxirbon_lower_json(uint32_t mode, const uint8_t *document, size_t document_len, uint8_t *out, size_t out_len, size_t *needed);
+
 #ifdef __cplusplus
 }
 #endif

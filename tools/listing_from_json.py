@@ -20,12 +20,13 @@ TEXTS = ("Str", "ByteStr", "CStr", "Char")
 # The parts of each form behind its kind, each as a letter for what it is and its key.
 EXPRS = {
     "Missing": "", "Underscore": "", "IncludeBytes": "", "Let": "p:pat e:expr", "If": "e:condition e:then_branch e:else_branch",
-    "Block": "u:is_unsafe l:label b:id s:statements e:tail", "Const": "e:expr", "Loop": "e:body l:label w:source", "Call": "e:callee E:args",
-    "Match": "e:expr A:arms", "Continue": "l:label", "Break": "l:label e:expr", "MethodCall": "e:receiver n:method_name g:generic_args E:args",
-    "Cast": "e:expr t:type_ref", "RecordLit": "h:path F:fields r:spread", "OffsetOf": "t:container N:fields", "Field": "e:expr n:name",
+    "Block": "u:is_unsafe l:label b:id s:statements e:tail", "Const": "e:expr", "Loop": "e:body l:label w:source",
+    "Call": "e:callee E:args", "Match": "e:expr A:arms", "Continue": "l:label", "Break": "l:label e:expr",
+    "MethodCall": "e:receiver n:method_name g:generic_args E:args", "Cast": "e:expr t:type_ref",
+    "RecordLit": "h:path F:fields r:spread", "OffsetOf": "t:container N:fields", "Field": "e:expr n:name",
     "UnaryOp": "w:op e:expr", "BinaryOp": "w:op e:lhs e:rhs", "Assignment": "p:target e:value", "Index": "e:base e:index",
-    "Ref": "w:rawness w:mutability e:expr", "Tuple": "E:exprs", "Array": "E:elements", "Repeat": "e:initializer e:repeat", "Become": "e:expr",
-    "Closure": "w:closure_kind w:capture_by c: t:ret_type e:body", "Return": "e:expr", "Yield": "e:expr", "Yeet": "e:expr",
+    "Ref": "w:rawness w:mutability e:expr", "Tuple": "E:exprs", "Array": "E:elements", "Repeat": "e:initializer e:repeat",
+    "Become": "e:expr", "Closure": "w:closure_kind w:capture_by c: t:ret_type e:body", "Return": "e:expr", "Yield": "e:expr", "Yeet": "e:expr",
     "Await": "e:expr", "Literal": "v:", "Path": "x:",
 }
 PATS = {
@@ -194,7 +195,8 @@ class Printer:
 
     def lifetime(self, index):
         form = self.store["lifetimes"][index]
-        return self.name(form["name"]) if form["k"] == "Named" else [{"Static": "'static", "Placeholder": "'_", "Error": "'{error}"}[form["k"]]]
+        words = {"Static": "'static", "Placeholder": "'_", "Error": "'{error}"}
+        return self.name(form["name"]) if form["k"] == "Named" else [words[form["k"]]]
 
     def binder(self, names):
         return ["for<", *joined("", [(self.name, it) for it in names], ", "), "> "]
@@ -328,7 +330,10 @@ class Printer:
             self.print(f"expansion {self.node(it['call'])} {it['file']}\n")
         for it in self.map["diagnostics"]:
             detail = [f" {it[key]}" for key in ("cfg", "location", "kind") if key in it]
-            detail += [" ", (self.name, it["name"])] if "name" in it else [" ", (self.path, {**it["path"], "k": ""})] if "path" in it else []
+            if "name" in it:
+                detail += [" ", (self.name, it["name"])]
+            if "path" in it:
+                detail += [" ", (self.path, {**it["path"], "k": "BarePath"})]
             self.print(f"diag {it['k']}", *detail, f"{self.source(it['node'], ' ')}\n")
 
     def listing(self, mode):

@@ -1,4 +1,4 @@
-// Calls the library with each of its requests for memory refused in turn, alone and with all that follow:
+// Calls both functions of the library with each of their requests for memory refused in turn, alone and with all that follow:
 //
 //   refused [MODE DOCUMENT]..
 //
@@ -16,6 +16,10 @@ struct block {
     size_t is_given;
     void *at;
 };
+
+typedef uint32_t lowering(uint32_t, const uint8_t *, size_t, uint8_t *, size_t, size_t *);
+
+static lowering *const FUNCTIONS[] = {laxirbon_lower, laxirbon_lower_json};
 
 static uint8_t document[MOST], first[MOST], out[MOST], zero;
 static long requests, refused, live;
@@ -51,10 +55,10 @@ struct answer {
     size_t length;
 };
 
-static struct answer call(uint32_t mode, size_t length, uint8_t *to) {
+static struct answer call(lowering *lower, uint32_t mode, size_t length, uint8_t *to) {
     struct answer answer;
     requests = live = 0;
-    answer.status = laxirbon_lower(mode, document, length, to, MOST, &answer.length);
+    answer.status = lower(mode, document, length, to, MOST, &answer.length);
     return answer;
 }
 
@@ -64,12 +68,12 @@ static int is_memory(struct answer answer) {
 }
 
 // Refuses each request in turn, and tells how many of so many calls are wrong.
-static long wrong_calls(uint32_t mode, size_t length, long *calls) {
+static long wrong_calls(lowering *lower, uint32_t mode, size_t length, long *calls) {
     refused = 0;
-    struct answer whole = call(mode, length, first);
+    struct answer whole = call(lower, mode, length, first);
     long all = requests, wrong = live != 0;
     for (refused = 1; refused <= all; refused++) {
-        struct answer answer = call(mode, length, out);
+        struct answer answer = call(lower, mode, length, out);
         int is_same = answer.status == whole.status && answer.length == whole.length && memcmp(out, first, whole.length) == 0;
         wrong += live != 0 || (!is_same && !is_memory(answer));
         *calls += 1;
@@ -84,7 +88,9 @@ int main(int count, char **words) {
         if (!file) return 2;
         size_t length = fread(document, 1, MOST, file);
         fclose(file);
-        for (is_refused_on = 0; is_refused_on < 2; is_refused_on++) wrong += wrong_calls((uint32_t)atol(words[i]), length, &calls);
+        for (is_refused_on = 0; is_refused_on < 2; is_refused_on++)
+            for (size_t j = 0; j < sizeof FUNCTIONS / sizeof *FUNCTIONS; j++)
+                wrong += wrong_calls(FUNCTIONS[j], (uint32_t)atol(words[i]), length, &calls);
     }
     printf("%ld refused requests, %ld calls are wrong\n", calls, wrong);
     return calls == 0 || wrong != 0;

@@ -1,6 +1,6 @@
 -- What a call answers.
 use Rattle.std.specs.Prelude.{◌≡◌, ◌≤◌, ◌<◌, ℕ, List, [], ◌∷◌, length, take, drop, Option, Some, None}
-use Rattle.std.specs.Prelude.{Result, Ok, Err, String, string_bytes, codes}
+use Rattle.std.specs.Prelude.{Result, Ok, Err, IfOk, String, string_bytes, codes}
 use Rattle.std.specs.List.{slice_get}
 use Rattle.std.specs.declared.alloc.Global.{Global}
 use Rattle.lower_run.specs.Answers.{CameOf}
@@ -48,6 +48,10 @@ pub record HandsOver (status : ℕ) (text : List ℕ) (answer needed : ℕ) (old
   pub behind : needed ≤ length old → drop needed new ≡ drop needed old
   pub short : length old < needed → (answer ≡ 4) × (new ≡ old)
 
+-- a listing, whose text isn't stated
+abbrev pub IsListing : List ℕ → Type 0
+IsListing text = Unit {0}
+
 -- some text does
 abbrev pub HandsOverSome : ℕ → ℕ → ℕ → List ℕ → List ℕ → Type 0
 HandsOverSome status answer needed old new = (text : List ℕ) × HandsOver status text answer needed old new
@@ -58,8 +62,10 @@ pub record Reports (came : Result (String Global) Failure) (answer needed : ℕ)
   pub says : Says came text
   pub handed : HandsOver (status_with_room came) text answer needed old new
 
--- a buffer has what is said of what came of the document that a call was about
-pub record Answers (mode : Option Mode) (document : List ℕ) (answer needed : ℕ) (old new : List ℕ) : Type 0 where
+-- a buffer has what is said of what came of the document that a call was about, whose form is one that was asked for
+pub record Answers (Form : List ℕ → Type 0) (mode : Option Mode) (document : List ℕ) (answer needed : ℕ) (old new : List ℕ)
+    : Type 0 where
   pub came : Result (String Global) Failure
   pub of : CameOfCall mode document came
+  pub form : IfOk came (λ made. Form (string_bytes made))
   pub reports : Reports came answer needed old new

@@ -108,8 +108,9 @@ last_one mode form a b c o p q (x ∷ xs) s within some rest one = record {
 }
 
 -- the same, as code says it: the line that was answered is the text, which isn't empty, and answering may have failed
-pub last : (mode : Mode) (form : Form) (a b c o p q : Option (List ℕ)) (t line : List ℕ) (r : Result (Unit {0}) Failure) → AnswersSoFar mode form a b o p
-    → IsWithinLine t → length t ≢ 0 → WasAll b c t → line ≡ t → OnOk r (AnswersOne mode form line p q) → OnOk r (AnswersAll mode form a c o q)
+pub last : (mode : Mode) (form : Form) (a b c o p q : Option (List ℕ)) (t line : List ℕ) (r : Result (Unit {0}) Failure)
+    → AnswersSoFar mode form a b o p → IsWithinLine t → length t ≢ 0 → WasAll b c t → line ≡ t → OnOk r (AnswersOne mode form line p q)
+    → OnOk r (AnswersAll mode form a c o q)
 last mode form a b c o p q t line (Err e) s within some rest is one = tt
 last mode form a b c o p q t line (Ok x) s within some rest is one =
     last_one mode form a b c o p q t s within (λ none. some (ap length none)) rest (subst (λ l. AnswersOne mode form l p q) is one)

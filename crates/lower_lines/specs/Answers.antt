@@ -1,13 +1,13 @@
 -- What is answered to a document.
-use Rattle.std.specs.Prelude.{◌≡◌, ℕ, List, [], ◌∷◌, ◌++◌, codes, Some, Err, string_bytes}
+use Rattle.std.specs.Prelude.{◌≡◌, ℕ, List, [], ◌∷◌, ◌++◌, codes, Some, string_bytes}
 use Rattle.serde_json.specs.Data.{Data, Members, object, member, no_members, number, string, unsigned}
 use Rattle.serde_json.specs.Read.{read}
 use Rattle.serde_json.specs.Written.{compact_text}
 use Rattle.thm_result_json.specs.Results as forms
-use Rattle.lower_run.specs.Answers.{CameOf, SaysSome}
+use Rattle.lower_run.specs.Answers.{FailsWith, SaysSome}
 use Rattle.lower_run.specs.Statuses.{status_of}
-use Rattle.lower_run.specs.declared.lowered.Lowered.{Lowered}
-use Rattle.lower_run.specs.declared.lowered.Lowered.TheVariants as lowered
+use Rattle.lower_run.specs.declared.results.LoweringResult.{LoweringResult}
+use Rattle.lower_run.specs.declared.results.LoweringResult.TheVariants as lowered
 use Rattle.lower_run.specs.declared.mode.Mode.{Mode}
 use Rattle.lower_lines.specs.declared.answer.Answer.{Answer}
 use Rattle.lower_lines.specs.declared.answer.Answer.TheVariants as answer
@@ -20,17 +20,17 @@ use Rattle.lower_lines.specs.declared.detail.Member.{Member}
 -- it is what came of a line as a document, in the form that was asked for
 abbrev pub IsAnswerTo : Mode → Form → List ℕ → Answer → Type 0
 IsAnswerTo mode f line (answer.Listing text) = (f ≡ form.Listing) × SaysSome mode line
-IsAnswerTo mode f line (answer.Lowered l) = (f ≡ form.Json) × SaysSome mode line
-IsAnswerTo mode f line (answer.Fault failure d) = CameOf {T = Unit {0}} mode line (Err failure)
+IsAnswerTo mode f line (answer.Json l) = (f ≡ form.Json) × SaysSome mode line
+IsAnswerTo mode f line (answer.Fault failure d) = FailsWith mode line failure
 
 -- the status with which a single call for the document ends
 abbrev pub status_of_answer : Answer → ℕ
 status_of_answer (answer.Listing text) = 0
-status_of_answer (answer.Lowered l) = 0
+status_of_answer (answer.Json l) = 0
 status_of_answer (answer.Fault failure d) = status_of failure
 
 -- all that a document is lowered to
-abbrev pub result_data : Lowered → Data
+abbrev pub result_data : LoweringResult → Data
 result_data (lowered.Body b) =
     (forms.body).to (b.body.store, b.source_map.store, b.body.params, b.body.self_param, b.source_map.self_param)
 result_data (lowered.Path p) = (forms.path_result).to (p.store, p.source_map, p.path)
@@ -50,7 +50,7 @@ abbrev pub detail_members : Detail → ℕ → List ℕ → Members
 detail_members detail.Nothing status text = fault_members status text
 detail_members (detail.Place p) status text =
     member (codes "column") (number (unsigned p.column)) (member (codes "line") (number (unsigned p.line)) (fault_members status text))
-detail_members (detail.Unread m) status text = member (codes "hint") (hint_data m) (fault_members status text)
+detail_members (detail.Member m) status text = member (codes "hint") (hint_data m) (fault_members status text)
 
 abbrev pub fault_data : ℕ → List ℕ → Detail → Data
 fault_data status text d = object (member (codes "fault") (object (detail_members d status text)) no_members)
@@ -61,7 +61,7 @@ ok_data d = object (member (codes "ok") d no_members)
 -- it says what is answered; the text beside a status isn't stated
 abbrev pub SaysAnswer : Answer → Data → Type 0
 SaysAnswer (answer.Listing text) d = d ≡ ok_data (string (string_bytes text))
-SaysAnswer (answer.Lowered l) d = d ≡ ok_data (result_data l)
+SaysAnswer (answer.Json l) d = d ≡ ok_data (result_data l)
 SaysAnswer (answer.Fault failure beside) d = (text : List ℕ) × (d ≡ fault_data (status_of failure) text beside)
 
 -- the text is its JSON, and is read as nothing else

@@ -10,8 +10,8 @@ use crate::call::Form;
 use crate::detail::Detail;
 use crate::result::result_text;
 use lower_run::failure::Failure;
-use lower_run::lowered::Lowered;
 use lower_run::mode::Mode;
+use lower_run::results::LoweringResult;
 use lower_run::run::{listing_among_many, lowered_among_many};
 use serde_json::{Value, json};
 use std::alloc::{AllocError, Global};
@@ -21,7 +21,7 @@ use std::alloc::{AllocError, Global};
 pub enum Answer {
     Listing(String),
     /// All that it is lowered to.
-    Lowered(Lowered),
+    Json(LoweringResult),
     /// Why there is no result.
     Fault(Failure, Detail),
 }
@@ -30,20 +30,39 @@ pub enum Answer {
 pub const REFUSED: &str = "{\"fault\":{\"status\":3,\"text\":\"refused: memory\"}}\n";
 
 impl Answer {
+    /// What is answered to a document that isn't lowered.
+    fn of_failure(alloc: Global, line: &[u8], failure: Failure) -> Answer
+        ensures { (detail : Detail) × (result ≡ Answer.Fault failure detail) }
+    {
+        let detail = Detail::of(alloc, &failure, line);
+        Answer::Fault(failure, detail)
+    }
+
+    fn with_listing(alloc: Global, mode: Mode, line: &[u8]) -> Answer
+        ensures { IsAnswerTo mode Form.Listing line.now result }
+    {
+        match listing_among_many(alloc, mode, line) {
+            Ok(listing) => Answer::Listing(listing),
+            Err(failure) => Answer::of_failure(alloc, line, failure),
+        }
+    }
+
+    fn with_result(alloc: Global, mode: Mode, line: &[u8]) -> Answer
+        ensures { IsAnswerTo mode Form.Json line.now result }
+    {
+        match lowered_among_many(alloc, mode, line) {
+            Ok(lowered) => Answer::Json(lowered),
+            Err(failure) => Answer::of_failure(alloc, line, failure),
+        }
+    }
+
     /// What is answered to the document that a line is in a mode.
     pub fn of(alloc: Global, mode: Mode, form: Form, line: &[u8]) -> Answer
         ensures { IsAnswerTo mode form line.now result }
     {
-        let done = match form {
-            Form::Listing => listing_among_many(alloc, mode, line).map(Answer::Listing),
-            Form::Json => lowered_among_many(alloc, mode, line).map(Answer::Lowered),
-        };
-        match done {
-            Ok(answer) => answer,
-            Err(failure) => {
-                let detail = Detail::of(alloc, &failure, line);
-                Answer::Fault(failure, detail)
-            }
+        match form {
+            Form::Listing => Answer::with_listing(alloc, mode, line),
+            Form::Json => Answer::with_result(alloc, mode, line),
         }
     }
 
@@ -52,7 +71,7 @@ impl Answer {
         ensures { result ≡ status_of_answer self.now }
     {
         match self {
-            Answer::Listing(_) | Answer::Lowered(_) => 0,
+            Answer::Listing(_) | Answer::Json(_) => 0,
             Answer::Fault(failure, _) => failure.status(),
         }
     }
@@ -63,7 +82,7 @@ impl Answer {
     {
         match self {
             Answer::Listing(listing) => listing_text(alloc, listing.as_str()),
-            Answer::Lowered(lowered) => result_text(alloc, lowered),
+            Answer::Json(lowered) => result_text(alloc, lowered),
             Answer::Fault(failure, detail) => fault_text(alloc, failure, detail),
         }
     }
@@ -105,7 +124,7 @@ fn fault_json(alloc: Global, status: u8, text: &str, detail: &Detail) -> Result<
             let column = at.column as u64;
             json!(in alloc; {"fault": {"column": column, "line": line, "status": status, "text": text}})
         }
-        Detail::Unread(member) => {
+        Detail::Member(member) => {
             let node = member.node as u64;
             let name = member.name.as_str();
             json!(in alloc; {"fault": {"hint": {"member": name, "node": node}, "status": status, "text": text}})

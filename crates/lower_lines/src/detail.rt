@@ -28,7 +28,7 @@ pub enum Detail {
     /// Where a text stops being JSON.
     Place(Place),
     /// Of a node that no field names, the first member that names it, but that its own node's kind doesn't have. Its name may be a slip.
-    Unread(Member),
+    Member(Member),
 }
 
 impl Detail {
@@ -42,8 +42,8 @@ impl Detail {
                 None => Detail::Nothing,
             },
             Failure::Document(Fault::Document(json_errors::fault::Fault::Unused { node })) => {
-                match unread_in(alloc, document, *node) {
-                    Some(member) => Detail::Unread(member),
+                match stray_member_in(alloc, document, *node) {
+                    Some(member) => Detail::Member(member),
                     None => Detail::Nothing,
                 }
             }
@@ -63,15 +63,26 @@ fn place_in(alloc: Global, document: &[u8]) -> Option<Place> {
                 column: error.column(),
             }),
         },
-        Err(error) => Some(Place {
-            line: 1,
-            column: error.valid_up_to().saturating_add(1),
-        }),
+        Err(error) => Some(place_at(document, error.valid_up_to())),
     }
 }
 
+/// Where a byte stands in a text.
+fn place_at(document: &[u8], at: usize) -> Place {
+    let mut place = Place { line: 1, column: 1 };
+    for byte in document.iter().take(at) {
+        if *byte == b'\n' {
+            place.line = place.line.saturating_add(1);
+            place.column = 1;
+        } else {
+            place.column = place.column.saturating_add(1);
+        }
+    }
+    place
+}
+
 /// Whether a member names a node, alone or in a list.
-fn names(value: &Value, node: u64) -> bool {
+fn has_number(value: &Value, node: u64) -> bool {
     match value {
         Value::Array(items) => {
             for item in items {
@@ -99,10 +110,10 @@ fn has_member(kind: Kind, name: &str) -> bool {
 }
 
 /// The first of a node's members that names another node, but that its kind doesn't have.
-fn unread_of(members: &Map<String, Value>, node: u64) -> Option<&str> {
+fn stray_member_of(members: &Map<String, Value>, node: u64) -> Option<&str> {
     let kind = Kind::from_word(members.get("k")?.as_str()?)?;
     for (name, value) in members.iter() {
-        if names(value, node) && !has_member(kind, name.as_str()) {
+        if has_number(value, node) && !has_member(kind, name.as_str()) {
             return Some(name.as_str());
         }
     }
@@ -110,10 +121,14 @@ fn unread_of(members: &Map<String, Value>, node: u64) -> Option<&str> {
 }
 
 /// The same of the first node that has one.
-fn unread_among(alloc: Global, nodes: &[Value], node: u64) -> Result<Option<Member>, AllocError> {
+fn first_stray_member(
+    alloc: Global,
+    nodes: &[Value],
+    node: u64,
+) -> Result<Option<Member>, AllocError> {
     for (index, of) in nodes.iter().enumerate() {
         if let Value::Object(members) = of
-            && let Some(name) = unread_of(members, node)
+            && let Some(name) = stray_member_of(members, node)
         {
             let name = String::from_str(alloc, name)?;
             return Ok(Some(Member { node: index, name }));
@@ -123,9 +138,9 @@ fn unread_among(alloc: Global, nodes: &[Value], node: u64) -> Result<Option<Memb
 }
 
 /// The same in a document. Nothing, if memory is refused.
-fn unread_in(alloc: Global, document: &[u8], node: usize) -> Option<Member> {
+fn stray_member_in(alloc: Global, document: &[u8], node: usize) -> Option<Member> {
     let text = str::from_utf8(document).ok()?;
     let value = Value::from_str(alloc, text).ok()?;
     let nodes = value.get("nodes")?.as_array()?;
-    unread_among(alloc, nodes.as_slice(), node as u64).ok()?
+    first_stray_member(alloc, nodes.as_slice(), node as u64).ok()?
 }

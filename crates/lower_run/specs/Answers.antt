@@ -13,15 +13,19 @@ use Rattle.lower_run.specs.declared.mode.Mode.{Mode}
 abbrev pub SaysSome : Mode → List ℕ → Type 0
 SaysSome mode text = (document : Document) × IsDocument (root_of mode) text document
 
--- what came of a text in a mode; memory may be refused for any
+-- why nothing came of a text in a mode; memory may be refused for any
+abbrev pub FailsWith : Mode → List ℕ → Failure → Type 0
+FailsWith mode text (failure.Document f) = IsTextFault (root_of mode) text f
+FailsWith mode text failure.Full = SaysSome mode text
+FailsWith mode text failure.Memory = Unit {0}
+FailsWith mode text failure.Usage = ⊥
+FailsWith mode text failure.Input = ⊥
+FailsWith mode text failure.Output = ⊥
+
+-- what came of a text in a mode
 abbrev pub CameOf : {T : Type 0} → Mode → List ℕ → Result T Failure → Type 0
 CameOf mode text (Ok _) = SaysSome mode text
-CameOf mode text (Err (failure.Document f)) = IsTextFault (root_of mode) text f
-CameOf mode text (Err failure.Full) = SaysSome mode text
-CameOf mode text (Err failure.Memory) = Unit {0}
-CameOf mode text (Err failure.Usage) = ⊥
-CameOf mode text (Err failure.Input) = ⊥
-CameOf mode text (Err failure.Output) = ⊥
+CameOf mode text (Err f) = FailsWith mode text f
 
 -- all that was left was read
 pub record ReadsAll (old new : Option (List ℕ)) (text : List ℕ) : Type 0 where

@@ -4,6 +4,6 @@
 pub mod disposal;
 pub mod failure;
 pub mod input;
-pub mod lowered;
 pub mod mode;
+pub mod results;
 pub mod run;

@@ -11,11 +11,11 @@ ghost use Rattle.std.specs.Io.KnownBytes.{Appends};
 use crate::disposal::Disposal;
 use crate::failure::Failure;
 use crate::input::read_all;
-use crate::lowered::{
-    Lowered, LoweredFunction, lowered_body, lowered_function, lowered_pat, lowered_path,
+use crate::mode::Mode;
+use crate::results::{
+    LoweredFunction, LoweringResult, lowered_body, lowered_function, lowered_pat, lowered_path,
     lowered_tree, lowered_type,
 };
-use crate::mode::Mode;
 use hir_alias::signature::AliasSignature;
 use hir_base::node::{HirFileId, InFile};
 use hir_env::env::LowerEnv;
@@ -269,7 +269,11 @@ fn lowered_listing<L: Lists>(
 }
 
 /// What a document is lowered to, of which first the aliases are.
-fn lowered_document(alloc: Global, mode: Mode, document: &mut Document) -> Result<Lowered, Failure>
+fn lowered_document(
+    alloc: Global,
+    mode: Mode,
+    document: &mut Document,
+) -> Result<LoweringResult, Failure>
     ensures { IfErr result (λ e. (e ≡ Failure.Memory) ⊎ (e ≡ Failure.Full)) }
 {
     add_aliases(alloc, &mut document.env, document.aliases.as_slice())?;
@@ -297,7 +301,7 @@ pub fn listing_among_many(alloc: Global, mode: Mode, text: &[u8]) -> Result<Stri
 }
 
 /// What the document that a text is in a mode is lowered to, for a process that has more to do: all that was read is dropped.
-pub fn lowered_among_many(alloc: Global, mode: Mode, text: &[u8]) -> Result<Lowered, Failure>
+pub fn lowered_among_many(alloc: Global, mode: Mode, text: &[u8]) -> Result<LoweringResult, Failure>
     ensures { CameOf mode text.now result }
 {
     let mut document = read_tree(alloc, mode.root(), text)?;

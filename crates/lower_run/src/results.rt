@@ -55,7 +55,7 @@ pub struct LoweredFunction {
 
 /// What a document is lowered to, by its mode.
 #[derive(Drop)]
-pub enum Lowered {
+pub enum LoweringResult {
     Body(LoweredBody),
     Path(LoweredPath),
     Type_(LoweredType),
@@ -184,10 +184,10 @@ fn lowered_item<E: LowerEnv>(
     document: &Document,
     env: &E,
     item: &Fn,
-) -> Result<Lowered, LowerError> {
+) -> Result<LoweringResult, LowerError> {
     match mode {
-        Mode::Fn => Ok(Lowered::Function(lowered_function(alloc, env, item)?)),
-        _ => Ok(Lowered::Body(lowered_body(alloc, document, env, item)?)),
+        Mode::Fn => Ok(LoweringResult::Function(lowered_function(alloc, env, item)?)),
+        _ => Ok(LoweringResult::Body(lowered_body(alloc, document, env, item)?)),
     }
 }
 
@@ -197,11 +197,11 @@ pub fn lowered_tree<E: LowerEnv>(
     mode: Mode,
     document: &Document,
     env: &E,
-) -> Result<Lowered, LowerError> {
+) -> Result<LoweringResult, LowerError> {
     match &document.tree {
         Tree::Fn(item) => lowered_item(alloc, mode, document, env, item),
-        Tree::Path(path) => Ok(Lowered::Path(lowered_path(alloc, document, env, path)?)),
-        Tree::Type_(ty) => Ok(Lowered::Type_(lowered_type(alloc, env, ty.as_ref())?)),
-        Tree::Pat(params) => Ok(Lowered::Body(lowered_pat(alloc, env, params)?)),
+        Tree::Path(path) => Ok(LoweringResult::Path(lowered_path(alloc, document, env, path)?)),
+        Tree::Type_(ty) => Ok(LoweringResult::Type_(lowered_type(alloc, env, ty.as_ref())?)),
+        Tree::Pat(params) => Ok(LoweringResult::Body(lowered_pat(alloc, env, params)?)),
     }
 }
