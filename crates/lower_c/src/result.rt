@@ -4,15 +4,15 @@ ghost use Rattle.std.specs.Prelude.{◌≡◌, IfOk, string_bytes};
 ghost use Rattle.serde_json.specs.Written.{compact_text};
 ghost use Rattle.lower_c.specs.Results.{result_data};
 
-use lower_run::lowered::Lowered;
+use lower_run::results::LoweringResult;
 use std::alloc::{AllocError, Global};
 use store_json::{body_to_json, function_to_json, path_to_json, type_to_json};
 
-pub fn result_json(alloc: Global, lowered: &Lowered) -> Result<String, AllocError>
+pub fn result_json(alloc: Global, lowered: &LoweringResult) -> Result<String, AllocError>
     ensures { IfOk result (λ s. string_bytes s ≡ compact_text (result_data lowered.now)) }
 {
     match lowered {
-        Lowered::Body(it) => body_to_json(
+        LoweringResult::Body(it) => body_to_json(
             alloc,
             &it.body.store,
             &it.source_map.store,
@@ -20,9 +20,9 @@ pub fn result_json(alloc: Global, lowered: &Lowered) -> Result<String, AllocErro
             &it.body.self_param,
             &it.source_map.self_param,
         ),
-        Lowered::Path(it) => path_to_json(alloc, &it.store, &it.source_map, &it.path),
-        Lowered::Type_(it) => type_to_json(alloc, &it.store, &it.source_map, it.type_ref),
-        Lowered::Function(it) => function_to_json(
+        LoweringResult::Path(it) => path_to_json(alloc, &it.store, &it.source_map, &it.path),
+        LoweringResult::Type_(it) => type_to_json(alloc, &it.store, &it.source_map, it.type_ref),
+        LoweringResult::Function(it) => function_to_json(
             alloc,
             &it.store,
             &it.source_map,
