@@ -1,5 +1,5 @@
 -- Those who answer what was asked as it was answered answer it alike.
-use Rattle.std.proofs.Common.{◌≡◌, ◌∙◌, ◌⊎◌, inl, inr, subst, sym, List, [], ◌∷◌, ◌++◌, map, Option, Some, None}
+use Rattle.std.proofs.Common.{◌≡◌, ◌∙◌, inl, inr, subst, sym, List, [], ◌∷◌, ◌++◌, map, Option, Some, None}
 use Rattle.hir_env.specs.Answers.{Answers}
 use Rattle.thm_frame.specs.Items.{LangItem, all_items, item_of}
 use Rattle.thm_frame.specs.Questions.{Alike, AllAlike, Question}

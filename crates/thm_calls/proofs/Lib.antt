@@ -1,6 +1,7 @@
 mod Framed
 mod Lasting
 mod Listed
+mod AtNodes
 mod Promised
 mod Owners
 mod Ruled

@@ -1,5 +1,5 @@
 -- What a call takes from its environment is the same of each that answers alike what is listed for it.
-use Rattle.std.proofs.Common.{◌≡◌, ◌∙◌, ap, refl, true, List, [], ◌∷◌, ◌++◌, map, Option, Some, None}
+use Rattle.std.proofs.Common.{◌≡◌, ◌∙◌, ap, refl, List, [], ◌∷◌, ◌++◌, map, Option, Some, None}
 use Rattle.hir_base.specs.declared.node.HirFileId.{HirFileId}
 use Rattle.hir_syntax.specs.declared.ast.Path.{Path as AstPath, out-Path}
 use Rattle.hir_syntax.specs.declared.ast.PathSegment.{PathSegment as AstSegment, out-PathSegment}
@@ -32,11 +32,9 @@ use Rattle.spec_data.specs.Segments.{all_but_first, first_trait, named_among}
 use Rattle.spec_data.specs.Written.{written_type}
 use Rattle.thm_frame.specs.Theorems.{rctx}
 use Rattle.thm_frame.specs.Questions.{AllAlike}
-use Rattle.thm_questions.specs.Areas.{AgreesAtNodes, AllThere, NodeArea}
-use Rattle.thm_questions.specs.Nodes.{formals_nodes, nodes_of}
 use Rattle.thm_questions.specs.Lists.{path_questions, segment_questions, type_questions}
 use Rattle.thm_questions.specs.Parts.{of_each, of_option}
-use Rattle.thm_questions.proofs.Bodies.{bodies_alike, bodies_keep, everywhere}
+use Rattle.thm_questions.proofs.Bodies.{bodies_alike, everywhere}
 use Rattle.thm_questions.proofs.Framing.{first_alike, rest_alike}
 use Rattle.thm_questions.proofs.Tree.{below, of_expr, of_path, of_segment, of_type}
 use Rattle.thm_item_questions.proofs.Items.{alias_at_by, function_at_by, generics_at_by, impl_at_by, trait_at_by}
@@ -52,13 +50,6 @@ use Rattle.thm_calls.proofs.Framed.{path_at, reading_of}
 pub body : (a b : Answers) (c : BodyCall) → AllAlike a b (body_call_asks c a) → body_reading c a ≡ body_reading c b
 body a b c h = let p = (body_rctx a c.owner c.file_id c.inside c.is_async).place in
     let same = bodies_alike a (everywhere a) b c.owner p (outside_place p) c.params c.body h in
-    λ i. reading_of c (same i)
-
-pub body_at_nodes : (a : Answers) (area : NodeArea a) (b : Answers) → AgreesAtNodes area b → (c : BodyCall) → area.inside c.inside ≡ true
-    → AllThere area c.file_id (of_option nodes_of c.body) → AllThere area c.file_id (formals_nodes c.params)
-    → body_reading c a ≡ body_reading c b
-body_at_nodes a area b h c w in_body in_params = let p = (body_rctx a c.owner c.file_id c.inside c.is_async).place in
-    let same = bodies_keep a area b h c.owner p (outside_place p) c.params c.body (w, in_body) (w, in_params) in
     λ i. reading_of c (same i)
 
 -- first by the other environment with the limit of this one, and then with its own

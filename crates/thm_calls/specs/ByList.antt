@@ -1,5 +1,5 @@
 -- How long what a call promised of its result holds, with the list of what is asked for it: as long as that is answered alike.
-use Rattle.std.specs.Prelude.{◌≡◌, true, List, [], ◌∷◌, ◌++◌, Option, Some, None}
+use Rattle.std.specs.Prelude.{List, [], ◌∷◌, ◌++◌, Option, Some, None}
 use Rattle.hir_base.specs.declared.node.HirFileId.{HirFileId}
 use Rattle.hir_syntax.specs.declared.ast.Path.{Path as AstPath, out-Path}
 use Rattle.hir_syntax.specs.declared.ast.PathSegment.{PathSegment as AstSegment, out-PathSegment}
@@ -28,9 +28,7 @@ use Rattle.hir_env.specs.declared.ctx.LoweringMode.{LoweringMode}
 use Rattle.hir_env.specs.declared.ctx.LoweringMode.TheVariants.{Analysis}
 use Rattle.spec_data.specs.Segments.{all_but_first, first_trait, named_among}
 use Rattle.thm_frame.specs.Questions.{AllAlike, Question, of_expansion_limit}
-use Rattle.thm_questions.specs.Areas.{AgreesAtNodes, AllThere, NodeArea}
 use Rattle.thm_questions.specs.Lists.{body_questions, path_questions, questions, segment_questions, type_questions}
-use Rattle.thm_questions.specs.Nodes.{formals_nodes, nodes_of}
 use Rattle.thm_questions.specs.Parts.{of_each, of_option}
 use Rattle.thm_item_questions.specs.Lists.{alias_questions, function_questions, generics_questions, impl_questions, trait_questions}
 use Rattle.hir_lower_callbacks.specs.ResolveCtxs.{rctx_at}
@@ -143,11 +141,3 @@ abbrev pub FunctionLastsByList : Type 0
 FunctionLastsByList = (a b : Answers) (file : HirFileId) (inside : ModuleId) (id : FunctionId) (x : Fn)
     → AllAlike a b (function_call_asks file inside id x a)
     → Passes (FunctionPromise id (read_function a file inside id x)) (FunctionPromise id (read_function b file inside id x))
-
--- So it is by each that answers alike what may be asked about nodes of body and parameters, and in the module that it is read in.
-
-abbrev pub BodyLastsAtNodes : Type 0
-BodyLastsAtNodes = (a : Answers) (area : NodeArea a) (b : Answers) → AgreesAtNodes area b → (c : BodyCall)
-    → area.inside c.inside ≡ true → AllThere area c.file_id (of_option nodes_of c.body)
-    → AllThere area c.file_id (formals_nodes c.params)
-    → Passes (BodyPromise (body_reading c a)) (BodyPromise (body_reading c b))

@@ -3,4 +3,5 @@ pub mod Promises
 pub mod Frames
 pub mod ByRules
 pub mod ByList
+pub mod AtNodes
 pub mod Outside

@@ -7,7 +7,10 @@ pub mod collected;
 pub mod items;
 pub mod types;
 
-ghost use Rattle.thm_calls.specs.ByList.{BodyLastsAtNodes, BodyLastsByList, ConstArgLastsByList, FunctionLastsByList};
+ghost use Rattle.thm_calls.specs.AtNodes.{BodyLastsAtNodes, ConstArgLastsAtNodes, FunctionLastsAtNodes, GenericParamsLastAtNodes};
+ghost use Rattle.thm_calls.specs.AtNodes.{ImplLastsAtNodes, PathLastsAtNodes, TraitLastsAtNodes, TypeAliasLastsAtNodes};
+ghost use Rattle.thm_calls.specs.AtNodes.{TypeRefLastsAtNodes};
+ghost use Rattle.thm_calls.specs.ByList.{BodyLastsByList, ConstArgLastsByList, FunctionLastsByList};
 ghost use Rattle.thm_calls.specs.ByList.{GenericParamsLastByList, ImplLastsByList, PathLastsByList, TraitLastsByList};
 ghost use Rattle.thm_calls.specs.ByList.{TypeAliasLastsByList, TypeRefLastsByList};
 ghost use Rattle.thm_calls.specs.Outside.{BodyLastsOutside};
@@ -47,8 +50,7 @@ pub fn results_last()
 {}
 
 /// The list that a reader can compute is enough: who answers it alike has all so that was promised. Of a path it names what is asked for
-/// its arguments, too. So has who answers alike what may be asked about the nodes of a body and of its parameters, and of what their calls
-/// stand for.
+/// its arguments, too.
 pub fn results_last_by_list()
     ensures bodies { BodyLastsByList }
     ensures types { TypeRefLastsByList }
@@ -59,8 +61,23 @@ pub fn results_last_by_list()
     ensures traits { TraitLastsByList }
     ensures aliases { TypeAliasLastsByList }
     ensures functions { FunctionLastsByList }
-    ensures bodies_at_nodes { BodyLastsAtNodes }
 {}
+
+/// So has who answers alike what may be asked about the nodes of what a call is handed, of a body with those of its parameters, and of what
+/// their calls stand for, and what of the list is about no node and asked in no module.
+pub fn results_last_at_nodes()
+    ensures bodies { BodyLastsAtNodes }
+    ensures types { TypeRefLastsAtNodes }
+    ensures consts { ConstArgLastsAtNodes }
+    ensures paths { PathLastsAtNodes }
+    ensures generics { GenericParamsLastAtNodes }
+    ensures impls { ImplLastsAtNodes }
+    ensures traits { TraitLastsAtNodes }
+    ensures aliases { TypeAliasLastsAtNodes }
+    ensures functions { FunctionLastsAtNodes }
+{
+    results_last_by_list();
+}
 
 /// So has who answers alike what is asked of a body and its parameters outside of what a condition disables: of what the steps of lowering
 /// leave by the one environment (clause `lowered` of `bodies::lower_body`) all is promised by the other one.

@@ -90,7 +90,7 @@ module _ (a : Answers) (area : NodeArea a) where
       }
 
   -- where all that may be asked there is answered alike, and so is what of a list is asked elsewhere
-  alike_there : (b : Answers) → AgreesAtNodes area b → (qs : List Question) → AllInNodes area qs → AllAlike a b (elsewhere qs)
+  pub alike_there : (b : Answers) → AgreesAtNodes area b → (qs : List Question) → AllInNodes area qs → AllAlike a b (elsewhere qs)
       → AllAlike a b qs
   alike_there b h [] k l = tt
   alike_there b h (q ∷ qs) k l = by (is_placed q) refl (alike_there b h qs k.1) l

@@ -1,5 +1,5 @@
 -- What the lists say: what is read depends on them alone, and they are about the nodes of what is read.
-use Rattle.std.specs.Prelude.{◌≡◌, Option}
+use Rattle.std.specs.Prelude.{◌≡◌, List, Option}
 use Rattle.hir_syntax.specs.declared.ast.Expr.{Expr as AstExpr}
 use Rattle.hir_syntax.specs.declared.ast.Path.{Path as AstPath}
 use Rattle.hir_syntax.specs.declared.params.ParamList.{ParamList as AstParamList}
@@ -10,7 +10,7 @@ use Rattle.hir_env.specs.Answers.{Answers}
 use Rattle.hir_env.specs.Whole.{resolved_expr, resolved_pat, resolved_path, resolved_type}
 use Rattle.hir_env.specs.declared.ctx.LowerCtx.{LowerCtx}
 use Rattle.thm_frame.specs.Theorems.{body_at, rctx}
-use Rattle.thm_frame.specs.Questions.{AllAlike, AllIn, Area, Here}
+use Rattle.thm_frame.specs.Questions.{AllAlike, AllIn, Area, Here, Question}
 use Rattle.thm_questions.specs.Nodes.{formals_nodes, nodes_of, pat_nodes_of, path_nodes_of, type_nodes_of}
 use Rattle.thm_questions.specs.Parts.{of_option}
 use Rattle.thm_questions.specs.Areas.{AgreesAtNodes, AllInNodes, Holds, NodeArea, elsewhere}
@@ -58,6 +58,10 @@ ExprsAtNodes = (a : Answers) (area : NodeArea a) (p : LowerCtx) (e : AstExpr) �
 
 -- So an environment reads the same that answers alike what may be asked there, and those of the list that are about no node and asked in no
 -- module.
+
+abbrev pub ListsKeepNodes : Type 0
+ListsKeepNodes = (a : Answers) (area : NodeArea a) (b : Answers) → AgreesAtNodes area b → (qs : List Question) → AllInNodes area qs
+    → AllAlike a b (elsewhere qs) → AllAlike a b qs
 
 abbrev pub TypesKeepNodes : Type 0
 TypesKeepNodes = (a : Answers) (area : NodeArea a) (b : Answers) → AgreesAtNodes area b

@@ -5,7 +5,7 @@
 ghost use Rattle.thm_questions.specs.Forms.{AssignmentAsks, BlockAsks, EnteredCallAsks, ForAsks, LimitedCallAsks, LiteralAsks};
 ghost use Rattle.thm_questions.specs.Forms.{DollarCrateAsks, PathAloneAsks, PathAsks, PlainNameAsks, QuestionAsks, UnresolvedCallAsks};
 ghost use Rattle.thm_questions.specs.Theorems.{BodiesByList, BodiesKeepNodes, ExprsAtNodes, ExprsByList, ExprsInFiles, ExprsKeepNodes};
-ghost use Rattle.thm_questions.specs.Theorems.{PathsAtNodes, PathsByList, PathsInFiles, PathsKeepNodes, PatsAtNodes, PatsByList};
+ghost use Rattle.thm_questions.specs.Theorems.{ListsKeepNodes, PathsAtNodes, PathsByList, PathsInFiles, PathsKeepNodes, PatsAtNodes, PatsByList};
 ghost use Rattle.thm_questions.specs.Theorems.{PatsInFiles};
 ghost use Rattle.thm_questions.specs.Theorems.{PatsKeepNodes, TypesAtNodes, TypesByList, TypesInFiles, TypesKeepNodes};
 
@@ -32,8 +32,10 @@ pub fn at_nodes()
 {}
 
 /// An environment that answers alike every question about the nodes of a tree and of what its calls stand for, every one that is asked in
-/// its modules, and those of the list that are about no node and in no module, reads the same; so it is with a body and its parameters.
+/// its modules, and those of a list that are about no node and in no module, answers the list alike and reads the same; so it is with a body
+/// and its parameters.
 pub fn keep_nodes()
+    ensures lists { ListsKeepNodes }
     ensures types { TypesKeepNodes }
     ensures paths { PathsKeepNodes }
     ensures pats { PatsKeepNodes }

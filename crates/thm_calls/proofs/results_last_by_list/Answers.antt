@@ -33,7 +33,3 @@ returns-clause-aliases _ = λ a b file container id x h r k.
 
 pub returns-clause-functions : goal.returns-clause-functions
 returns-clause-functions _ = λ a b file inside id x h r k. subst (λ y. FunctionPromise id y r) (listed.function a b file inside id x h) k
-
-pub returns-clause-bodies_at_nodes : goal.returns-clause-bodies_at_nodes
-returns-clause-bodies_at_nodes _ = λ a area b h c w in_body in_params r k.
-    subst (λ x. BodyPromise x r) (listed.body_at_nodes a area b h c w in_body in_params) k

@@ -1,6 +1,9 @@
-use Rattle.thm_questions.proofs.Bodies.{bodies_keep, keeps}
+use Rattle.thm_questions.proofs.Bodies.{alike_there, bodies_keep, keeps}
 use Rattle.thm_questions.proofs.Tree.{below, of_expr, of_pat, of_path, of_type}
 use Rattle.thm_questions.proofs.keep_nodes.Goals as goal
+
+pub returns-clause-lists : goal.returns-clause-lists
+returns-clause-lists c = λ a area b h qs k l. alike_there a area b h qs k l
 
 pub returns-clause-types : goal.returns-clause-types
 returns-clause-types c = λ a area b h p t in_p l. keeps a area b h (of_type a area p.left (below a area p.left) t p) in_p.0 in_p.1 l
