@@ -1,7 +1,7 @@
 #!/usr/bin/env python3
 """Measures how much stack lowering takes a level, for each form that nests.
 
-    bench/levels.py [--program PATH] [--form NAME] [--reading | --within KILOBYTES]
+    bench/levels.py [--program PATH] [--form NAME] [--reading | --within KILOBYTES [--trees]]
 
 A document holds one tree in which a form nests as deep as a tree may be, and at
 the end a call of a macro that stands for another such tree, and so on. Of two
@@ -15,7 +15,8 @@ lowering, so the least limit of stack is the one under which they are read.
 
 With --within nothing is measured. Of each form a tree of 256 levels, in which 64
 calls of macros stand one in the other at the end, has to be lowered under that
-limit of stack, and those are told that aren't.
+limit of stack, and those are told that aren't. With --trees as well each of 64
+calls stands for a tree of such levels, with the next call at its end.
 """
 
 import argparse
@@ -392,6 +393,7 @@ def main():
     parser.add_argument("--form", help="one form alone")
     parser.add_argument("--reading", action="store_true", help="what reading takes, not lowering")
     parser.add_argument("--within", type=int, help="try this limit of stack alone, in kilobytes")
+    parser.add_argument("--trees", action="store_true", help="with --within: a tree for each call")
     options = parser.parse_args()
     # Trees are as deep as documents.
     sys.setrecursionlimit(100 * MOST_LEVELS)
@@ -404,9 +406,11 @@ def main():
                 continue
             if options.within is not None:
                 tried += 1
-                if not is_enough(program, deepest(sort, form), options.within):
+                document = nested(sort, form, MANY)[0] if options.trees else deepest(sort, form)
+                if not is_enough(program, document, options.within):
                     failed += 1
-                    print(f"FAILED {form}: {MOST_LEVELS} levels aren't lowered in {options.within} kilobytes of stack")
+                    levels = f"{MANY} trees of {LEVELS} levels" if options.trees else f"{MOST_LEVELS} levels"
+                    print(f"FAILED {form}: {levels} aren't lowered in {options.within} kilobytes of stack")
                 continue
             if options.reading:
                 (few, few_levels), (many, many_levels) = (read(sort, form, most) for most in (LEVELS // 2, LEVELS))

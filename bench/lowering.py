@@ -200,7 +200,7 @@ def line(program, name, nodes):
     with tempfile.TemporaryDirectory() as folder:
         path = os.path.join(folder, "document.json")
         count = make(name, nodes, path)
-        mode = MODES.get(name, "body")
+        mode = MODES[name]
 
         def seconds(task, few, many):
             least, most = (min(run(program, mode, path, times, task)[0] for _ in range(3)) for times in (few, many))

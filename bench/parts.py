@@ -51,7 +51,7 @@ def counted(program, name, nodes):
     with tempfile.TemporaryDirectory() as folder:
         path, out = (os.path.join(folder, it) for it in ("document.json", "callgrind"))
         count = make(name, nodes, path)
-        command = ["valgrind", "--tool=callgrind", "--callgrind-out-file=" + out, program, MODES.get(name, "body")]
+        command = ["valgrind", "--tool=callgrind", "--callgrind-out-file=" + out, program, MODES[name]]
         with open(path, "rb") as document:
             subprocess.run(command, stdin=document, stdout=subprocess.DEVNULL, stderr=subprocess.DEVNULL, check=True)
         costs, total = inclusive(out)

@@ -26,6 +26,9 @@ PAT = {
 }
 ARM = {"Arm": "pat expr expr"}
 TABLES = {"expr": EXPR, "stmt": STMT, "pat": PAT, "arm": ARM}
+# Types and patterns that are one sign wherever they are written.
+SIGN_TYPES = {"never": "!", "error": "{error}", "infer": "_"}
+SIGN_PATS = {"Wild": "_", "Rest": "..", "NotNull": "!null"}
 HEAD = re.compile(r"(?:[ro]\d+=)*\((\w+)(@)?(?:(?:(\d+)\.)?(\d+))?(?=[ )])")
 WORD = re.compile(r"[^\s()\[\]]+")
 NAME = re.compile(r"\?|[^\s()\[\]{}<>:,;!=+&*|'\"?]+")
@@ -316,8 +319,8 @@ class Reader:
 
     def plain_type(self):
         """A type without a pattern behind it."""
-        for words, kind in (("!", "never"), ("{error}", "error")):
-            if self.eat(words):
+        for kind in ("never", "error"):
+            if self.eat(SIGN_TYPES[kind]):
                 return (kind,)
         if self.match(re.compile(r"_(?![\w:])")):
             return ("infer",)

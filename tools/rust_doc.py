@@ -62,13 +62,12 @@ def print_places(source, piece):
 def words_of():
     """The words of the command."""
     parser = argparse.ArgumentParser(description="Makes documents from Rust text.")
-    parser.add_argument("file", help="a file of Rust, `-` for standard input, or a folder with --stat")
+    command.add_text(parser, "a file of Rust, `-` for standard input, or a folder with --stat", "of --all and --stat")
     parser.add_argument("--list", action="store_true", help="what can be lowered")
     parser.add_argument("--item", metavar="N|NAME", help="which item; without it the first body")
     parser.add_argument("--places", action="store_true", help="where each node stands")
     parser.add_argument("--all", metavar="DIR", help="writes a file for each item")
     parser.add_argument("--stat", action="store_true", help="lowers all of a file or a folder, and counts")
-    parser.add_argument("--modes", default="body", help="of --all and --stat, with commas between them: body, fn, type, path")
     command.add_options(parser)
     return parser.parse_args()
 

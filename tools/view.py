@@ -18,9 +18,8 @@ from front.document import conditions_of
 def words_of():
     """The words of the command."""
     parser = argparse.ArgumentParser(description="Shows what a file of Rust is lowered to, as one page.")
-    parser.add_argument("file", help="a file of Rust, or `-` for standard input")
+    command.add_text(parser, "a file of Rust, or `-` for standard input")
     parser.add_argument("--all-cfg", action="store_true", help="leaves nothing out for a condition")
-    parser.add_argument("--modes", default="body", help="with commas between them: body, fn, type, path")
     parser.add_argument("--no-resolve", action="store_true", help="no name stands for a value")
     command.add_options(parser, view=True)
     return parser.parse_args()

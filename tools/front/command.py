@@ -16,6 +16,12 @@ INTERRUPTED = 130
 GRACE = 1
 
 
+def add_text(parser, file, modes="what is lowered"):
+    """The words that say which text is lowered, and in which modes; the other two are their help."""
+    parser.add_argument("file", help=file)
+    parser.add_argument("--modes", default="body", help=f"{modes}, with commas between them: body, fn, type, path")
+
+
 def add_options(parser, view=False):
     """The words that say what stands around the text."""
     parser.add_argument("--cfg", action="append", metavar="ATOM",

@@ -1,4 +1,5 @@
 """Prints names, paths, types, bounds and patterns as upstream does."""
+from listing import SIGN_PATS, SIGN_TYPES
 
 KEYWORDS = frozenset("""
     as break const continue else enum extern false fn for if impl in let loop match mod move mut pub ref return static
@@ -21,7 +22,10 @@ class HirPatterns:
 
     def pat(self, form):
         """A pattern."""
-        getattr(self, "pat_" + form.kind)(*form.parts)
+        if form.kind in SIGN_PATS:
+            self.out.write(SIGN_PATS[form.kind])
+        else:
+            getattr(self, "pat_" + form.kind)(*form.parts)
 
     def binding(self, key):
         """A binding with how it is bound."""
@@ -31,18 +35,6 @@ class HirPatterns:
     def pat_Missing(self):
         """What is missing."""
         self.out.write("\ufffd")
-
-    def pat_Rest(self):
-        """`..`."""
-        self.out.write("..")
-
-    def pat_Wild(self):
-        """`_`."""
-        self.out.write("_")
-
-    def pat_NotNull(self):
-        """`!null`."""
-        self.out.write("!null")
 
     def between(self, parts, separator, dots=None, sign=""):
         """Patterns with a text between them, and the two dots at their place in front of a part."""
@@ -214,25 +206,16 @@ class HirTypes(HirPatterns):
 
     def type(self, kind):
         """A type."""
-        getattr(self, "type_" + kind[0])(*kind[1:])
+        if kind[0] in SIGN_TYPES:
+            self.out.write(SIGN_TYPES[kind[0]])
+        else:
+            getattr(self, "type_" + kind[0])(*kind[1:])
 
     def types(self, kinds):
         """Types with commas between them."""
         for at, kind in enumerate(kinds):
             self.out.write(", " if at else "")
             self.type(kind)
-
-    def type_never(self):
-        """`!`."""
-        self.out.write("!")
-
-    def type_error(self):
-        """What is no type."""
-        self.out.write("{error}")
-
-    def type_infer(self):
-        """`_`."""
-        self.out.write("_")
 
     def type_tuple(self, parts):
         """A tuple."""

@@ -1,7 +1,7 @@
 """What is stored, as text like Rust with marks around each form."""
 import html
 
-from listing import Form
+from listing import SIGN_PATS, Form
 
 from .layout import HARD, LINE, Around, Group, Html, Nest, around, braces, keyword, word
 from .show_types import TypeWriter
@@ -357,7 +357,7 @@ class Show(TypeWriter):
             return "_"
 
         def write(form, *parts):
-            layout = getattr(self, "pat_" + form.kind)(*parts)
+            layout = SIGN_PATS.get(form.kind) or getattr(self, "pat_" + form.kind)(*parts)
             return ["(", layout, ")"] if tight and form.kind == "Or" else layout
 
         return self.in_form(form, write)
@@ -365,18 +365,6 @@ class Show(TypeWriter):
     def pat_Missing(self):
         """What is missing."""
         return Html("⟨missing⟩", 9)
-
-    def pat_Wild(self):
-        """`_`."""
-        return "_"
-
-    def pat_Rest(self):
-        """`..`."""
-        return ".."
-
-    def pat_NotNull(self):
-        """`!null`."""
-        return "!null"
 
     def pat_Bind(self, key, inner):
         """A binding."""

@@ -1,4 +1,6 @@
 """Paths and types as layouts."""
+from listing import SIGN_TYPES
+
 from .layout import Around, Html
 
 
@@ -67,19 +69,7 @@ class TypeWriter:
 
     def plain_type(self, kind):
         """A type."""
-        return getattr(self, "type_" + kind[0])(*kind[1:])
-
-    def type_never(self):
-        """`!`."""
-        return "!"
-
-    def type_error(self):
-        """What is no type."""
-        return "{error}"
-
-    def type_infer(self):
-        """`_`."""
-        return "_"
+        return SIGN_TYPES.get(kind[0]) or getattr(self, "type_" + kind[0])(*kind[1:])
 
     def type_tuple(self, parts):
         """A tuple."""

@@ -110,19 +110,9 @@ class Writer:
 
     def type(self, kind):
         """A type that may be absent."""
-        return "-" if kind is None else getattr(self, "type_" + kind[0])(*kind[1:])
-
-    def type_never(self):
-        """`!`."""
-        return "!"
-
-    def type_error(self):
-        """What is no type."""
-        return "{error}"
-
-    def type_infer(self):
-        """`_`."""
-        return "_"
+        if kind is None:
+            return "-"
+        return listing.SIGN_TYPES.get(kind[0]) or getattr(self, "type_" + kind[0])(*kind[1:])
 
     def type_tuple(self, parts):
         """A tuple."""

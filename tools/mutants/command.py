@@ -1,8 +1,9 @@
 """The command: scripts/mutants [--libraries DIR | --behind FILE [--beside N]] [--jobs N] [--anew] [--measure] [--no-shells] [CRATE..]
 
-With --apply nothing is tried, in no time: those mutants are told that don't apply or stand in another function than they say, and lines of
-measured data that have no mutant. With --behind a crate waits until all below it is proved by an `rt ci` that runs meanwhile, whose words
-stand in that file (gate.py). The libraries below a crate are those that `rt ci` leaves, or with --libraries those in DIR.
+With --apply nothing is tried, in no time: those mutants are told that don't apply, name no function of their crate or stand in another one
+than they say, and lines of measured data that have no mutant. With --behind a crate waits until all below it is proved by an `rt ci` that
+runs meanwhile, whose words stand in that file (gate.py). The libraries below a crate are those that `rt ci` leaves, or with --libraries
+those in DIR.
 """
 import argparse
 import glob

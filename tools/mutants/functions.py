@@ -4,7 +4,7 @@ import re
 
 from mutants.edits import text_of
 
-HEAD = re.compile(r"^((?:[ \t]*#\[[^\]]*\]\n)*)([ \t]*)(?:pub(?:\(\w+\))? )?(const )?(?:unsafe )?fn (\w+)", re.M)
+HEAD = re.compile(r'^((?:[ \t]*#\[[^\]]*\]\n)*)([ \t]*)(?:pub(?:\(\w+\))? )?(const )?(?:unsafe )?(?:extern "C" )?fn (\w+)', re.M)
 IN_CLAUSE = re.compile(r"[ \t]*(requires|ensures|ghost)\b")
 CYCLE = re.compile(r"[ \t]*#\[cycle\((\w+)\)\]\n")
 BLOCK = re.compile(r"^(?:pub )?(?:unsafe )?(?:impl|trait|mod)\b[^{;]*", re.M)
@@ -86,6 +86,14 @@ class Function:
         file = self.file if self.file in files else files[0] if len(files) == 1 else ""
         return [*module_path(file), owner[1], self.word] if file else []
 
+    def is_called(self, name):
+        """Whether a check may call it so. In a trait or a block of a trait's methods its module and its word are compared, and in the block
+        of a type that several files declare its word alone."""
+        modules, path = module_path(self.file), name.split("::")
+        if self.name or path[-1] != self.word:
+            return self.name == name
+        return " for " not in self.block and self.block.startswith("impl") or path[: len(modules)] == modules and len(path) > len(modules) + 1
+
     def types(self):
         """The types that its block of a trait's methods is for."""
         return types_for(self.block)
@@ -116,6 +124,10 @@ class Functions:
     def before(self, file, place):
         """The last function of a file below src/ that begins before this place, or nothing."""
         return [None, *(it for it in self.all if it.file == file and it.head.start() < place)][-1]
+
+    def called(self, name):
+        """The functions that a check may call so."""
+        return [it for it in self.by_word.get(name.split("::")[-1], []) if it.is_called(name)]
 
     def proved_with(self, function):
         """A function, and those that are proved with it."""

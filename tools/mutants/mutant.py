@@ -69,15 +69,17 @@ class Mutant:
 
     def locate(self, functions, number):
         """Finds the function and its proof, and for a mutant of a body that it stands in the function that it names."""
-        path = self.function.split("::")
-        self.proof = "/".join(path)
+        self.proof = self.function.replace("::", "/")
+        if not functions.called(self.function):
+            self.wrong = f"no function of its crate is called `{self.function}`"
+            return
         for file, old, _ in self.pairs:
             text = functions.texts.get(file.removeprefix("src/"), "")
             if file.startswith("specs/") or old not in text:
                 continue
             at = text.index(old) + len(old) - 1
             within = functions.before(file.removeprefix("src/"), at)
-            if not within or within.word != path[-1]:
+            if not within or not within.is_called(self.function):
                 self.wrong = f"it stands in `{within.word if within else file}`, which `function:` doesn't name"
             elif not within.begin <= at < within.end:
                 self.wrong = "it stands in a clause or behind the body, and not in it"

@@ -9,11 +9,11 @@ use Rattle.hir_store.specs.declared.ids.TypeRefId.{TypeRefId}
 use Rattle.hir_store.specs.declared.error.StoreError.TheVariants.{Memory}
 use Rattle.hir_store.specs.declared.path.Path.{Path}
 use Rattle.hir_store.specs.declared.type_ref.TypeRef.{TypeRef}
-use Rattle.hir_env.specs.ResolvedTree.{OptionExpr, OptionPath}
+use Rattle.hir_env.specs.ResolvedTree.{OptionExpr, OptionPath, OptionType}
 use Rattle.hir_lower_builder.specs.Builder.{Builder}
 use Rattle.hir_lower_builder.specs.Lowering.{Checked}
-use Rattle.hir_lower.specs.Collected.{Collected, of_constant, of_path, of_type}
-use Rattle.hir_lower.specs.Means.{AddsType, PathRooted, Rooted}
+use Rattle.hir_lower.specs.Collected.{Collected, of_constant, of_path, of_type, of_type_ref}
+use Rattle.hir_lower.specs.Means.{AddsType, PathRooted, Rooted, TypeRooted}
 use Rattle.hir_lower.specs.Roots.{new_builder}
 use Rattle.hir_lower.specs.Stays.{Stays}
 
@@ -37,6 +37,15 @@ path_collected old new p (Ok y) rooted stays k = ∥∥₁_map k (λ c. record {
   left = (old, (c.left, (rooted, stays (λ is. cc))));
 })
 path_collected old new p (Err x) rooted stays k = tt
+
+pub type_ref_collected : (old new : Stored) (t : OptionType) (r : Checked TypeRefId) → IfOk r (λ i. TypeRooted old new i t)
+    → (r ≢ Err Memory → Stays old new) → ∥ Collected old ∥₁ → IfOk r (λ i. ∥ Collected new ∥₁)
+type_ref_collected old new t (Ok i) rooted stays k = ∥∥₁_map k (λ c. record {
+  limit = c.limit;
+  calls = of_type_ref t i ∷ c.calls;
+  left = (old, (c.left, (rooted, stays (λ is. cc))));
+})
+type_ref_collected old new t (Err x) rooted stays k = tt
 
 pub type_collected : (old new : Stored) (at : Pointer) (t : TypeRef) (r : Checked TypeRefId) → IfOk r (λ i. AddsType old new i t at)
     → ∥ Collected old ∥₁ → IfOk r (λ i. ∥ Collected new ∥₁)

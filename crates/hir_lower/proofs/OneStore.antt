@@ -21,7 +21,7 @@ use Rattle.thm_body_result.specs.Leads.{label_mapping}
 use Rattle.thm_body_result.specs.Leads.{unled_mapping}
 use Rattle.thm_body_result.proofs.Lasting.{in_prefix}
 use Rattle.thm_body_result.proofs.Led.{leads_nowhere, led_still, led_then}
-use Rattle.hir_lower.specs.Collected.{AllStand, Call, Collected, LeftBy, OfCalls, CorrespondsTo, of_constant, of_path, of_type}
+use Rattle.hir_lower.specs.Collected.{AllStand, Call, Collected, LeftBy, OfCalls, CorrespondsTo, of_constant, of_path, of_type, of_type_ref}
 use Rattle.hir_lower.specs.Roots.{new_builder}
 use Rattle.hir_lower.specs.Stays.{Stays}
 
@@ -191,6 +191,19 @@ all_in_one (of_constant e i ∷ cs) first s final (before, (left, (rooted, stays
 all_in_one (of_path p r ∷ cs) first s final (before, (left, (rooted, stays))) onto =
     let l = rooted.lives final onto.extends onto.settled in
     one_more (of_path p r) cs first before s final onto
+    (all_in_one cs first before final left (onto_before before s final stays onto))
+    (record {
+      mappings = l.mappings;
+      corresponds = l.corresponds;
+      covers = l.reaches.covers;
+      labels = l.reaches.covers_labels;
+      bindings = l.reaches.covers_bindings;
+      owners = l.owner_mappings;
+      led = l.reaches.led;
+    })
+all_in_one (of_type_ref t i ∷ cs) first s final (before, (left, (rooted, stays))) onto =
+    let l = rooted.lives final onto.extends onto.settled in
+    one_more (of_type_ref t i) cs first before s final onto
     (all_in_one cs first before final left (onto_before before s final stays onto))
     (record {
       mappings = l.mappings;

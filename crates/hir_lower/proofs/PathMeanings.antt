@@ -102,7 +102,7 @@ module _ (at : ResolveCtx) (x : AstPath) (b b' : Builder) where
 
   constants_live : (later : Stored) → b.scopes ≡ [] → MayBeOwned b.stored → Settled b.stored b'.stored
       → Shown (WholeMappings (store_of later) (map_of later) b.scopes (whole_path at x)) b.stored b'.stored
-      → ConstantsLive b.stored b'.stored later (whole_path at x)
+      → ConstantsLive b.stored b'.stored later (WholeMappings (store_of later) (map_of later) [] (whole_path at x))
   constants_live later none may settled w = record {
     mappings = w.mappings;
     corresponds = subst (λ rs. WholeMappings (store_of later) (map_of later) rs (whole_path at x) w.mappings) none w.shown;

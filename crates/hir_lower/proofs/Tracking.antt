@@ -1,23 +1,26 @@
--- What is noted where a constant is lowered as a root, or a path alone.
-use Rattle.std.proofs.Common.{Option, Ok, Err}
+-- What is noted where a constant is lowered as a root, or a path or a type alone.
+use Rattle.std.proofs.Common.{Option, None, Ok, Err}
 use Rattle.std.specs.Prelude.{IfOk}
-use Rattle.hir_store.specs.Range.{HasExpr}
+use Rattle.hir_store.specs.Range.{HasExpr, HasType}
 use Rattle.hir_store.specs.declared.ids.ExprId.{ExprId}
+use Rattle.hir_store.specs.declared.ids.TypeRefId.{TypeRefId}
 use Rattle.hir_store.specs.declared.path.Path.{Path}
 use Rattle.hir_syntax.specs.declared.ast.Path.{Path as AstPath}
+use Rattle.hir_syntax.specs.declared.types.Type_.{Type_ as AstType_}
 use Rattle.hir_env.specs.ResolvedTree.{OptionExpr}
 use Rattle.hir_env.specs.ResolveCtx.{ResolveCtx}
 use Rattle.hir_lower_builder.specs.Builder.{Builder}
+use Rattle.hir_lower_builder.specs.Lower.{type_part}
 use Rattle.hir_lower_builder.specs.Lowering.{Checked, Lowers}
 use Rattle.hir_lower_builder.specs.Methods.{LowersPath}
 use Rattle.thm_logic.specs.Keeps.{Paired}
-use Rattle.spec_data.specs.Fold.{tracked_in_part, tracked_in_whole}
+use Rattle.spec_data.specs.Fold.{tracked_in_part, tracked_in_type_part, tracked_in_whole}
 use Rattle.thm_generics.specs.Lists.{Tracked}
 use Rattle.thm_generics.proofs.Logic.{SideOutput, tracked_by, tracks_begin, tracks_end, tracks_pure}
 use Rattle.thm_generics.proofs.Steps.{tracks_bindings_end, tracks_close_labels, tracks_enter_root, tracks_outside_root, tracks_own}
 use Rattle.thm_generics.proofs.Steps.{tracks_record_root}
-use Rattle.thm_generics.proofs.Tree.{part_tracked, paths_tracked}
-use Rattle.hir_lower.specs.Means.{whole_path}
+use Rattle.thm_generics.proofs.Tree.{part_tracked, paths_tracked, types_tracked}
+use Rattle.hir_lower.specs.Means.{whole_path, whole_type}
 use Rattle.hir_lower.specs.Roots.{root_of}
 
 root_tracks : (e : OptionExpr) → SideOutput (tracked_in_part e) (root_of e)
@@ -35,3 +38,9 @@ pub path_tracked : (at : ResolveCtx) (x : AstPath) (b b' : Builder) (r : Checked
     → Paired b.stored → IfOk r (λ y. Tracked (tracked_in_whole (whole_path at x)) b b')
 path_tracked at x b b' (Ok y) l d = paths_tracked (whole_path at x) b b' y d l.0
 path_tracked at x b b' (Err f) l d = tt
+
+pub type_ref_tracked : (at : ResolveCtx) (x : Option AstType_) (b b' : Builder) (r : Checked TypeRefId)
+    → Lowers HasType (type_part None (whole_type at x)) b r b'
+    → Paired b.stored → IfOk r (λ i. Tracked (tracked_in_type_part (whole_type at x)) b b')
+type_ref_tracked at x b b' (Ok i) l d = types_tracked None (whole_type at x) b b' i d l.0
+type_ref_tracked at x b b' (Err f) l d = tt

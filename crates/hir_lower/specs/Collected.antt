@@ -6,10 +6,10 @@ use Rattle.hir_store.specs.declared.ids.ExprId.{ExprId}
 use Rattle.hir_store.specs.declared.ids.TypeRefId.{TypeRefId}
 use Rattle.hir_store.specs.declared.path.Path.{Path}
 use Rattle.hir_store.specs.declared.type_ref.TypeRef.{TypeRef}
-use Rattle.hir_env.specs.ResolvedTree.{OptionExpr, OptionPath}
+use Rattle.hir_env.specs.ResolvedTree.{OptionExpr, OptionPath, OptionType}
 use Rattle.thm_body_result.specs.Leads.{Covers, CoversBindings, CoversLabels, MapLeads, No, OwnedBy, OwnersAre, Mapping, Mappings, ◌&◌}
-use Rattle.thm_body_result.specs.Corresponds.{CorrespondsPart, WholeMappings}
-use Rattle.hir_lower.specs.Means.{AddsType, PathRooted, Rooted}
+use Rattle.thm_body_result.specs.Corresponds.{CorrespondsPart, TypePartMappings, WholeMappings}
+use Rattle.hir_lower.specs.Means.{AddsType, PathRooted, Rooted, TypeRooted}
 use Rattle.hir_lower.specs.Roots.{new_builder}
 use Rattle.hir_lower.specs.Stays.{Stays}
 
@@ -17,6 +17,7 @@ use Rattle.hir_lower.specs.Stays.{Stays}
 pub data Call : Type 0 where
   of_constant : OptionExpr → ExprId → Call
   of_path : OptionPath → Option Path → Call
+  of_type_ref : OptionType → TypeRefId → Call
   -- what an `impl` at this node became
   of_type : Pointer → TypeRef → TypeRefId → Call
 
@@ -25,6 +26,7 @@ pub data Call : Type 0 where
 abbrev pub Leaves : Call → Stored → Stored → Type 0
 Leaves (of_constant e i) old new = Rooted old new i e × Stays old new
 Leaves (of_path p r) old new = PathRooted old new r p × Stays old new
+Leaves (of_type_ref t i) old new = TypeRooted old new i t × Stays old new
 Leaves (of_type at t i) old new = AddsType old new i t at
 
 -- what they left, the last of them first, behind what was stored at first
@@ -42,6 +44,7 @@ pub record Collected (s : Stored) : Type 0 where
 abbrev pub CorrespondsTo : Store → SourceMap → Call → Mappings
 CorrespondsTo store source_map (of_constant e i) = OwnedBy i (CorrespondsPart store source_map [] e i)
 CorrespondsTo store source_map (of_path p r) = WholeMappings store source_map [] p
+CorrespondsTo store source_map (of_type_ref t i) = TypePartMappings store source_map [] t
 CorrespondsTo store source_map (of_type at t i) = No
 
 -- in the order of the calls

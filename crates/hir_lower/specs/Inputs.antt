@@ -72,7 +72,7 @@ body_input env owner node file inside ps e is_async is_gen = let at = body_rctx 
 abbrev pub type_input : Answers → ModuleId → InFile (Option (Bor AstType_)) → OptionType
 type_input env inside t = whole_type (type_rctx env t.file_id inside) (option_copied t.value)
 
--- constants and paths, at the place of the collector
+-- constants, paths and types, at the place of the collector
 
 -- an `await` in a constant is in a constant, wherever the collector is
 abbrev pub const_input : Answers → LowerCtx → AstConstArg → OptionExpr
@@ -84,6 +84,10 @@ path_rctx env place impl = rctx_at env (becoming place impl)
 
 abbrev pub path_input : Answers → LowerCtx → ImplTrait → AstPath → OptionPath
 path_input env place impl x = whole_path (path_rctx env place impl) x
+
+-- a type at the place of the collector; the caller says what an `impl Trait` in it becomes
+abbrev pub placed_type_input : Answers → LowerCtx → ImplTrait → Option AstType_ → OptionType
+placed_type_input env place impl x = whole_type (rctx_at env (becoming place impl)) x
 
 -- items
 

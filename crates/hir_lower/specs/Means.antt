@@ -39,32 +39,33 @@ use Rattle.hir_env.specs.Whole.{resolved_path, expr_part, type_part}
 use Rattle.spec_data.specs.Data.{path_names}
 use Rattle.spec_data.specs.Patterns.{written_pat}
 use Rattle.spec_data.specs.Preludes.{formal_patterns}
-use Rattle.spec_data.specs.Reading.{stored_pat, stored_path}
-use Rattle.spec_data.specs.Written.{written_path}
+use Rattle.spec_data.specs.Reading.{stored_pat, stored_path, stored_type}
+use Rattle.spec_data.specs.Written.{written_path, written_type}
 use Rattle.spec_data.specs.Segments.{PlainTrait, Whole, first_trait, named_segments, segment_name}
 use Rattle.spec_data.specs.Tops.{Tops}
-use Rattle.spec_semantics.specs.Inner.{Inside, all_inners, all_of, path_bodies, path_inner_bodies, tops_bodies}
+use Rattle.spec_semantics.specs.Inner.{Inside, all_inners, all_of, part_bodies, path_bodies, path_inner_bodies, tops_bodies}
+use Rattle.spec_semantics.specs.Inner.{type_inner_bodies}
 use Rattle.spec_semantics.specs.Inner.{of_present as of_some}
 use Rattle.spec_semantics.specs.Same.{SameBodies, SameCoroutine, SameMeaning}
 use Rattle.thm_semantics.specs.Reached.{Spread, of_each, reached_to}
 use Rattle.thm_logic.specs.Keeps.{IsHanded, IsOfTwo, IsOneOf, Mapped, Paired, times_bound, times_labelled}
 use Rattle.thm_logic.specs.Calls.{Expansions}
-use Rattle.thm_body_result.specs.Blocks.{blocks_of_part, blocks_of_whole}
-use Rattle.thm_body_result.specs.Diagnostics.{Faults, part_diagnostics, whole_faults}
+use Rattle.thm_body_result.specs.Blocks.{blocks_of_part, blocks_of_type_part, blocks_of_whole}
+use Rattle.thm_body_result.specs.Diagnostics.{Faults, part_diagnostics, type_part_faults, whole_faults}
 use Rattle.thm_body_result.specs.Theorems.{Grown, Reaches, Settled}
-use Rattle.thm_body_result.specs.Room.{size_part, whole_size}
+use Rattle.thm_body_result.specs.Room.{size_part, type_part_size, whole_size}
 use Rattle.thm_body_result.specs.Size.{owned, placed_owners}
-use Rattle.thm_body_result.specs.Leads.{OwnedBy, OwnersAre, Mapping}
-use Rattle.thm_body_result.specs.Corresponds.{CorrespondsPart, WholeMappings}
+use Rattle.thm_body_result.specs.Leads.{OwnedBy, OwnersAre, Mapping, Mappings}
+use Rattle.thm_body_result.specs.Corresponds.{CorrespondsPart, TypePartMappings, WholeMappings}
 use Rattle.thm_body_result.specs.Bodies.{grade_body}
 use Rattle.thm_body_result.specs.Expanded as emitted
 use Rattle.thm_body_result.specs.StoredData.{DataAdded}
 use Rattle.thm_logic.specs.Grades.{grade_expr_part, grade_part, grade_whole}
 use Rattle.thm_item_result.specs.Answers.{parameter_type}
 use Rattle.hir_store.specs.declared.param.Param.{Param}
-use Rattle.hir_lower.specs.Data.{data_in, data_in_path}
+use Rattle.hir_lower.specs.Data.{data_in, data_in_path, data_in_type}
 use Rattle.hir_lower.specs.Formals.{formals_read}
-use Rattle.thm_type_result.specs.Unrun.{unrun_in, unrun_in_path, unrun_in_pats}
+use Rattle.thm_type_result.specs.Unrun.{unrun_in, unrun_in_path, unrun_in_pats, unrun_in_type}
 use Rattle.thm_type_result.specs.Named.{TypesSpread, of_exprs, of_pats, of_pats_alone, of_types_alone}
 use Rattle.thm_type_result.specs.Pats.{BindingsCame, PatsSpread, of_types, pats_reached}
 use Rattle.thm_type_result.specs.Roots.{RootsOf}
@@ -218,10 +219,10 @@ abbrev pub RoomForImpl : Stored → Option GenericLists → Type 0
 RoomForImpl old None = RoomForType old
 RoomForImpl old (Some l) = RoomForType old × (length l.type_or_consts < 4294967295)
 
--- What stands in a later store for the constants of a lowered path: as for the tree of a root.
-pub record ConstantsLive (old new later : Stored) (p : OptionPath) : Type 0 where
+-- What stands in a later store for the constants of a lowered path or type, by the mappings of its tree: as for the tree of a root.
+pub record ConstantsLive (old new later : Stored) (stand : Mappings) : Type 0 where
   pub mappings : List Mapping
-  pub corresponds : WholeMappings (store_of later) (map_of later) [] p mappings
+  pub corresponds : stand mappings
   pub reaches : Reaches old new mappings
   pub owner_mappings : OwnersAre new.bindings.owners mappings
 
@@ -234,7 +235,8 @@ pub record ConstantsLive (old new later : Stored) (p : OptionPath) : Type 0 wher
 pub record PathRooted (old new : Stored) (r : Option Path) (p : OptionPath) : Type 0 where
   pub inner : (later : Stored) → Extends new later
       → SameBodies (store_of later) (map_of later) (of_some (path_inner_bodies (store_of later)) r) (path_bodies p)
-  pub lives : (later : Stored) → Extends new later → Settled new later → ConstantsLive old new later p
+  pub lives : (later : Stored) → Extends new later → Settled new later
+      → ConstantsLive old new later (WholeMappings (store_of later) (map_of later) [] p)
   pub roots : (later : Stored) → Extends new later → RootsOf [] old new later (whole_size p).inner
   pub faults : new.diagnostics ≡ old.diagnostics ++ whole_faults [] p
   pub blocks : new.block_scopes ≡ old.block_scopes ++ blocks_of_whole p
@@ -248,6 +250,36 @@ pub record PathRooted (old new : Stored) (r : Option Path) (p : OptionPath) : Ty
   pub grown : Grown (whole_size p) old new
   pub stored_data : DataAdded (data_in_path p) old new
   pub owners : new.bindings.owners ≡ old.bindings.owners ++ placed_owners (length old.exprs.entries) (whole_size p).owners
+  pub paired : Paired new
+  pub mapped : Mapped old → Mapped new
+
+-- what is read back of a stored type in each later store
+abbrev pub TypeReadsBack : Stored → TypeRefId → OptionType → Type 0
+TypeReadsBack new i t = (later : Stored) → Extends new later → stored_type (store_of later) (map_of later) i ≡ written_type t
+
+-- What lowering a type to i leaves: types and lifetimes from just those of its nodes that become one, and its constants. Those are roots;
+-- behind the faults, the blocks and the macro calls that were noted before come theirs, in the order of lowering. In each later store
+-- each body inside i does what the written one does; i and the expressions and patterns that came reach each type in one way only, and
+-- none that was stored before; so do the expressions and types that came reach each pattern. The patterns that came make bindings that
+-- came, each owned by the innermost body around it, as `lives` says, and by its number, as `owners` does.
+pub record TypeRooted (old new : Stored) (i : TypeRefId) (t : OptionType) : Type 0 where
+  pub inner : (later : Stored) → Extends new later
+      → SameBodies (store_of later) (map_of later) (type_inner_bodies (store_of later) i) (part_bodies t)
+  pub lives : (later : Stored) → Extends new later → Settled new later
+      → ConstantsLive old new later (TypePartMappings (store_of later) (map_of later) [] t)
+  pub roots : (later : Stored) → Extends new later → RootsOf [] old new later (type_part_size t).inner
+  pub faults : new.diagnostics ≡ old.diagnostics ++ type_part_faults [] t
+  pub blocks : new.block_scopes ≡ old.block_scopes ++ blocks_of_type_part t
+  pub expansions : new.expansions ≡ old.expansions ++ expanded_in_type t
+  pub types_reached_once : (later : Stored) → Extends new later → TypesSpread old new later (λ f. f i)
+  pub pats_reached_once : (later : Stored) → Extends new later → PatsSpread old new later []
+  pub inside_reached_once : (later : Stored) → Extends new later → (depth : ℕ) → length later.exprs.entries ≤ depth
+      → Spread (length old.exprs.entries) (length new.exprs.entries)
+      (of_each (reached_to (store_of later) depth) (unrun_in_type (store_of later) i))
+  pub bindings_came : BindingsCame old new
+  pub grown : Grown (type_part_size t) old new
+  pub stored_data : DataAdded (data_in_type t) old new
+  pub owners : new.bindings.owners ≡ old.bindings.owners ++ placed_owners (length old.exprs.entries) (type_part_size t).owners
   pub paired : Paired new
   pub mapped : Mapped old → Mapped new
 

@@ -54,6 +54,8 @@ use hir_store::type_ref::{ConstRef, TypeBound, TypeRef};
 use hir_syntax::{Boxed, ast};
 use std::alloc::{AllocError, Global};
 
+mod type_refs;
+
 /// The expression in a box, where there is one.
 fn unboxed(expr: &Option<Boxed<ast::Expr>>) -> Option<&ast::Expr>
     ensures { option_copied result ≡ expr.now }

@@ -26,7 +26,7 @@ use hir_syntax::ast;
 use std::alloc::Global;
 
 /// The type, or an error without source where it is absent.
-fn lower_type_opt<E: LowerEnv>(
+pub(crate) fn lower_type_opt<E: LowerEnv>(
     alloc: Global,
     env: &E,
     place: LowerCtx,

@@ -1,4 +1,4 @@
-//! Expressions, statements, and their parts.
+//! Expressions, statements, and their parts. The implementation of each group is written out, since no macro can write a ghost member.
 
 ghost use Rattle.json_nodes.specs.Groups.{arm_of, block_of, else_of, expr_of, guard_of, let_else_of, macro_call_of, macro_stmts_of};
 ghost use Rattle.std.specs.Prelude.{◌≡◌, Some};
@@ -6,7 +6,7 @@ ghost use Rattle.json_nodes.specs.Kept.{Kept};
 ghost use Rattle.json_nodes.specs.Exprs.{expr_at};
 ghost use Rattle.json_nodes.specs.Groups.{pat_literal_of, record_field_of, record_list_of, stmt_of};
 
-use crate::part::{BoxedGroup, KindGroup, SortGroup, Sorted, in_box};
+use crate::part::{BoxedGroup, KindGroup, SortGroup, Sorted, boxed_part, in_box};
 use crate::sorts::{CodeSort, ExprSort};
 use hir_base::Boxed;
 use hir_base::node::{NodeId, TextRange};
@@ -116,13 +116,7 @@ impl SortGroup<ExprPart> for Exprs {
 
 impl BoxedGroup for Exprs {
     fn boxed(alloc: Global, refused: &mut bool, part: Expr) -> Option<Boxed<Expr>> {
-        match Boxed::new(alloc, part) {
-            Ok(part) => Some(part),
-            Err(_) => {
-                *refused = true;
-                None
-            }
-        }
+        boxed_part(alloc, refused, part)
     }
 }
 
@@ -332,13 +326,7 @@ impl<S, L, A, D, R, F, C, M> SortGroup<CodeOf<S, L, A, D, R, F, C, M>> for Macro
 
 impl BoxedGroup for MacroStmtLists {
     fn boxed(alloc: Global, refused: &mut bool, part: MacroStmts) -> Option<Boxed<MacroStmts>> {
-        match Boxed::new(alloc, part) {
-            Ok(part) => Some(part),
-            Err(_) => {
-                *refused = true;
-                None
-            }
-        }
+        boxed_part(alloc, refused, part)
     }
 }
 
@@ -366,11 +354,5 @@ impl KindGroup for Exprs {
 pub fn block_in_box(alloc: Global, refused: &mut bool, block: BlockExpr) -> Option<Boxed<BlockExpr>>
     ensures { Kept refused.old refused.new (result ≡ Some block) }
 {
-    match Boxed::new(alloc, block) {
-        Ok(block) => Some(block),
-        Err(_) => {
-            *refused = true;
-            None
-        }
-    }
+    boxed_part(alloc, refused, block)
 }

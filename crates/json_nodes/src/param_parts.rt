@@ -3,7 +3,7 @@
 ghost use Rattle.json_nodes.specs.Pats.{pat_at};
 ghost use Rattle.json_nodes.specs.Groups.{param_list_of, param_of, pat_field_of, pat_of, self_param_of};
 
-use crate::part::{BoxedGroup, KindGroup, SortGroup, Sorted, in_box};
+use crate::part::{BoxedGroup, KindGroup, SortGroup, Sorted, boxed_part, in_box};
 use crate::sorts::{ParamSort, PatSort};
 use hir_base::Boxed;
 use hir_base::node::{NodeId, TextRange};
@@ -60,13 +60,7 @@ impl SortGroup<PatPart> for Pats {
 
 impl BoxedGroup for Pats {
     fn boxed(alloc: Global, refused: &mut bool, part: Pat) -> Option<Boxed<Pat>> {
-        match Boxed::new(alloc, part) {
-            Ok(part) => Some(part),
-            Err(_) => {
-                *refused = true;
-                None
-            }
-        }
+        boxed_part(alloc, refused, part)
     }
 }
 
@@ -125,13 +119,7 @@ impl<P, L> SortGroup<ParamOf<P, Boxed<SelfParam>, L>> for SelfParams {
 
 impl BoxedGroup for SelfParams {
     fn boxed(alloc: Global, refused: &mut bool, part: SelfParam) -> Option<Boxed<SelfParam>> {
-        match Boxed::new(alloc, part) {
-            Ok(part) => Some(part),
-            Err(_) => {
-                *refused = true;
-                None
-            }
-        }
+        boxed_part(alloc, refused, part)
     }
 }
 
@@ -156,13 +144,7 @@ impl<P, S> SortGroup<ParamOf<P, S, Boxed<ParamList>>> for ParamLists {
 
 impl BoxedGroup for ParamLists {
     fn boxed(alloc: Global, refused: &mut bool, part: ParamList) -> Option<Boxed<ParamList>> {
-        match Boxed::new(alloc, part) {
-            Ok(part) => Some(part),
-            Err(_) => {
-                *refused = true;
-                None
-            }
-        }
+        boxed_part(alloc, refused, part)
     }
 }
 

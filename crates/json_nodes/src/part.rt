@@ -128,6 +128,19 @@ pub fn served<A, G: Group<A>, P: LetsGo<A>>(parts: &P, part: A) -> Option<G::Par
     }
 }
 
+/// A part in a box. Where memory is refused it sets `refused` and answers none.
+pub fn boxed_part<T: Drop>(alloc: Global, refused: &mut bool, part: T) -> Option<Boxed<T>>
+    ensures { Kept refused.old refused.new (result ≡ Some part) }
+{
+    match Boxed::new(alloc, part) {
+        Ok(part) => Some(part),
+        Err(_) => {
+            *refused = true;
+            None
+        }
+    }
+}
+
 /// A group of which trees hold parts in boxes.
 pub trait BoxedGroup: Group<AnyPart> {
     /// The part in a box. Where memory is refused it sets `refused` and answers none.

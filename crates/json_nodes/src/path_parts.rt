@@ -3,7 +3,7 @@
 ghost use Rattle.json_nodes.specs.Groups.{const_arg_of, generic_arg_of, generic_args_of, paren_args_of};
 ghost use Rattle.json_nodes.specs.Groups.{path_of, segment_of, type_arg_of};
 
-use crate::part::{BoxedGroup, SortGroup, Sorted};
+use crate::part::{BoxedGroup, SortGroup, Sorted, boxed_part};
 use crate::sorts::PathSort;
 use hir_base::Boxed;
 use hir_syntax::ast::{
@@ -75,13 +75,7 @@ impl<P, S, A, T, C, G, R> SortGroup<PathOf<P, S, A, T, C, G, R>> for Paths {
 
 impl BoxedGroup for Paths {
     fn boxed(alloc: Global, refused: &mut bool, part: Path) -> Option<Boxed<Path>> {
-        match Boxed::new(alloc, part) {
-            Ok(part) => Some(part),
-            Err(_) => {
-                *refused = true;
-                None
-            }
-        }
+        boxed_part(alloc, refused, part)
     }
 }
 
@@ -106,13 +100,7 @@ impl<P, A, T, C, G, R> SortGroup<PathOf<P, Boxed<PathSegment>, A, T, C, G, R>> f
 
 impl BoxedGroup for Segments {
     fn boxed(alloc: Global, refused: &mut bool, part: PathSegment) -> Option<Boxed<PathSegment>> {
-        match Boxed::new(alloc, part) {
-            Ok(part) => Some(part),
-            Err(_) => {
-                *refused = true;
-                None
-            }
-        }
+        boxed_part(alloc, refused, part)
     }
 }
 
@@ -208,12 +196,6 @@ impl<P, S, A, R> SortGroup<PathOf<P, S, A, TypeArg, ConstArg, Boxed<GenericArg>,
 
 impl BoxedGroup for GenericArgs {
     fn boxed(alloc: Global, refused: &mut bool, part: GenericArg) -> Option<Boxed<GenericArg>> {
-        match Boxed::new(alloc, part) {
-            Ok(part) => Some(part),
-            Err(_) => {
-                *refused = true;
-                None
-            }
-        }
+        boxed_part(alloc, refused, part)
     }
 }

@@ -3,7 +3,7 @@
 ghost use Rattle.json_nodes.specs.Types.{type_at};
 ghost use Rattle.json_nodes.specs.Groups.{binder_of, bound_of, path_type_of, ret_of, type_of};
 
-use crate::part::{BoxedGroup, KindGroup, SortGroup, Sorted, in_box};
+use crate::part::{BoxedGroup, KindGroup, SortGroup, Sorted, boxed_part, in_box};
 use crate::sorts::TypeSort;
 use hir_base::Boxed;
 use hir_base::node::{NodeId, TextRange};
@@ -64,13 +64,7 @@ impl<B, F, R> SortGroup<TypeOf<Boxed<Type_>, PathType, B, F, R>> for Types {
 
 impl BoxedGroup for Types {
     fn boxed(alloc: Global, refused: &mut bool, part: Type_) -> Option<Boxed<Type_>> {
-        match Boxed::new(alloc, part) {
-            Ok(part) => Some(part),
-            Err(_) => {
-                *refused = true;
-                None
-            }
-        }
+        boxed_part(alloc, refused, part)
     }
 }
 
@@ -112,13 +106,7 @@ impl<T, P, F, R> SortGroup<TypeOf<T, P, Boxed<TypeBound>, F, R>> for Bounds {
 
 impl BoxedGroup for Bounds {
     fn boxed(alloc: Global, refused: &mut bool, part: TypeBound) -> Option<Boxed<TypeBound>> {
-        match Boxed::new(alloc, part) {
-            Ok(part) => Some(part),
-            Err(_) => {
-                *refused = true;
-                None
-            }
-        }
+        boxed_part(alloc, refused, part)
     }
 }
 

@@ -1,4 +1,5 @@
 mod Calls
 mod Read
+mod Results
 mod Sent
 mod SoFar

@@ -3,6 +3,7 @@
 
 pub mod disposal;
 pub mod failure;
-mod input;
+pub mod input;
+pub mod lowered;
 pub mod mode;
 pub mod run;

@@ -17,7 +17,8 @@ pub enum Mode {
 }
 
 impl Mode {
-    fn with_word(word: &str) -> Option<Mode>
+    /// The mode whose word it is.
+    pub fn with_word(word: &str) -> Option<Mode>
         ensures { result ≡ mode_with word.now }
     {
         match word {

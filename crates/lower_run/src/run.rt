@@ -11,17 +11,16 @@ ghost use Rattle.std.specs.Io.KnownBytes.{Appends};
 use crate::disposal::Disposal;
 use crate::failure::Failure;
 use crate::input::read_all;
+use crate::lowered::{
+    Lowered, LoweredFunction, lowered_body, lowered_function, lowered_pat, lowered_path,
+    lowered_tree, lowered_type,
+};
 use crate::mode::Mode;
 use hir_alias::signature::AliasSignature;
-use hir_base::node::{AstPtr, HirFileId, InFile};
+use hir_base::node::{HirFileId, InFile};
 use hir_env::env::LowerEnv;
-use hir_lower::{
-    ErrorImplTrait, ExprCollector, LowerError, lower_body, lower_function, lower_type_alias,
-    lower_type_ref,
-};
-use hir_store::generics::GenericParams;
-use hir_store::ids::{DefWithBodyId, FunctionId, ItemContainerId, ModuleId, TypeRefId};
-use hir_store::path::Path;
+use hir_lower::{LowerError, lower_type_alias};
+use hir_store::ids::{ItemContainerId, ModuleId};
 use hir_store::source_map::ExpressionStoreSourceMap;
 use hir_store::store::ExpressionStore;
 use hir_syntax::ast::{self, ParamList};
@@ -62,34 +61,14 @@ fn listed_body<E: LowerEnv>(
 ) -> Result<String, Failure>
     ensures { IfErr result (λ e. (e ≡ Failure.Memory) ⊎ (e ≡ Failure.Full)) }
 {
-    let node = AstPtr {
-        node: item.id,
-        range: item.range,
-    };
-    let body = match &item.body {
-        Some(body) => Some(body.get()),
-        None => None,
-    };
-    let (body, source_map) = lower_body(
-        alloc,
-        env,
-        document.owner,
-        node,
-        HirFileId(0),
-        ModuleId(0),
-        item.params.as_ref(),
-        body,
-        item.async_,
-        item.gen_,
-    )?;
-    let listed = listed_in(document, &body.store, &source_map.store);
-    let self_param = match body.self_param {
+    let lowered = lowered_body(alloc, document, env, item)?;
+    let listed = listed_in(document, &lowered.body.store, &lowered.source_map.store);
+    let self_param = match lowered.body.self_param {
         Some(param) => Some(param.formal),
         None => None,
     };
-    let text = body_listing(alloc, listed, self_param, body.params.as_slice());
-    disposal.end(body);
-    disposal.end(source_map);
+    let text = body_listing(alloc, listed, self_param, lowered.body.params.as_slice());
+    disposal.end(lowered);
     text.map_err(|_| Failure::Memory)
 }
 
@@ -103,40 +82,11 @@ fn listed_pat<E: LowerEnv>(
 ) -> Result<String, Failure>
     ensures { IfErr result (λ e. (e ≡ Failure.Memory) ⊎ (e ≡ Failure.Full)) }
 {
-    let node = AstPtr {
-        node: params.id,
-        range: params.range,
-    };
-    let (body, source_map) = lower_body(
-        alloc,
-        env,
-        DefWithBodyId::FunctionId(FunctionId(0)),
-        node,
-        HirFileId(0),
-        ModuleId(0),
-        Some(params),
-        None,
-        false,
-        false,
-    )?;
-    let listed = listed_in(document, &body.store, &source_map.store);
-    let text = params_listing(alloc, listed, body.params.as_slice());
-    disposal.end(body);
-    disposal.end(source_map);
+    let lowered = lowered_pat(alloc, env, params)?;
+    let listed = listed_in(document, &lowered.body.store, &lowered.source_map.store);
+    let text = params_listing(alloc, listed, lowered.body.params.as_slice());
+    disposal.end(lowered);
     text.map_err(|_| Failure::Memory)
-}
-
-/// A lowered path, with the store that it names.
-fn lowered_path<E: LowerEnv>(
-    alloc: Global,
-    document: &Document,
-    env: &E,
-    path: &ast::Path,
-) -> Result<(Option<Path>, ExpressionStore, ExpressionStoreSourceMap), LowerError> {
-    let mut collector = ExprCollector::new(alloc, env, ModuleId(0), HirFileId(0), document.mode);
-    let lowered = collector.lower_path(path, &mut ErrorImplTrait)?;
-    let (store, source_map) = collector.into_store()?;
-    Ok((lowered, store, source_map))
 }
 
 /// The listing of a path.
@@ -149,12 +99,10 @@ fn listed_path<E: LowerEnv>(
 ) -> Result<String, Failure>
     ensures { IfErr result (λ e. (e ≡ Failure.Memory) ⊎ (e ≡ Failure.Full)) }
 {
-    let (lowered, store, source_map) = lowered_path(alloc, document, env, path)?;
-    let listed = listed_in(document, &store, &source_map);
-    let text = path_listing(alloc, listed, lowered.as_ref(), path);
+    let lowered = lowered_path(alloc, document, env, path)?;
+    let listed = listed_in(document, &lowered.store, &lowered.source_map);
+    let text = path_listing(alloc, listed, lowered.path.as_ref(), path);
     disposal.end(lowered);
-    disposal.end(store);
-    disposal.end(source_map);
     text.map_err(|_| Failure::Memory)
 }
 
@@ -168,15 +116,10 @@ fn listed_type<E: LowerEnv>(
 ) -> Result<String, Failure>
     ensures { IfErr result (λ e. (e ≡ Failure.Memory) ⊎ (e ≡ Failure.Full)) }
 {
-    let written = InFile {
-        file_id: HirFileId(0),
-        value: ty,
-    };
-    let (store, source_map, lowered) = lower_type_ref(alloc, env, ModuleId(0), written)?;
-    let listed = listed_in(document, &store, &source_map);
-    let text = type_listing(alloc, listed, lowered);
-    disposal.end(store);
-    disposal.end(source_map);
+    let lowered = lowered_type(alloc, env, ty)?;
+    let listed = listed_in(document, &lowered.store, &lowered.source_map);
+    let text = type_listing(alloc, listed, lowered.type_ref);
+    disposal.end(lowered);
     text.map_err(|_| Failure::Memory)
 }
 
@@ -184,21 +127,17 @@ fn listed_type<E: LowerEnv>(
 fn signature_listing<'a>(
     alloc: Global,
     listed: Listed<'a>,
-    params: &'a GenericParams,
-    args: &'a [TypeRefId],
-    ret: Option<TypeRefId>,
-    has_self: bool,
-    has_variadic: bool,
+    lowered: &'a LoweredFunction,
 ) -> Result<String, AllocError> {
     let signature = Signature {
-        params,
-        args,
-        ret,
-        has_self,
-        has_variadic,
+        params: &lowered.generic_params,
+        args: lowered.args.as_slice(),
+        ret: lowered.ret,
+        has_self: lowered.has_self,
+        has_variadic: lowered.has_variadic,
     };
     let listed = Listed {
-        params: Some(params),
+        params: Some(&lowered.generic_params),
         ..listed
     };
     function_listing(alloc, listed, signature)
@@ -214,24 +153,10 @@ fn listed_function<E: LowerEnv>(
 ) -> Result<String, Failure>
     ensures { IfErr result (λ e. (e ≡ Failure.Memory) ⊎ (e ≡ Failure.Full)) }
 {
-    let written = InFile {
-        file_id: HirFileId(0),
-        value: item,
-    };
-    let (store, source_map, params, args, ret, has_self, has_variadic) = lower_function(
-        alloc,
-        env,
-        ModuleId(0),
-        written,
-        FunctionId(0),
-    )?;
-    let listed = listed_in(document, &store, &source_map);
-    let types = args.as_slice();
-    let text = signature_listing(alloc, listed, &params, types, ret, has_self, has_variadic);
-    disposal.end(store);
-    disposal.end(source_map);
-    disposal.end(params);
-    disposal.end(args);
+    let lowered = lowered_function(alloc, env, item)?;
+    let listed = listed_in(document, &lowered.store, &lowered.source_map);
+    let text = signature_listing(alloc, listed, &lowered);
+    disposal.end(lowered);
     text.map_err(|_| Failure::Memory)
 }
 
@@ -343,6 +268,14 @@ fn lowered_listing<L: Lists>(
     lists.listing(alloc, mode, document)
 }
 
+/// What a document is lowered to, of which first the aliases are.
+fn lowered_document(alloc: Global, mode: Mode, document: &mut Document) -> Result<Lowered, Failure>
+    ensures { IfErr result (λ e. (e ≡ Failure.Memory) ⊎ (e ≡ Failure.Full)) }
+{
+    add_aliases(alloc, &mut document.env, document.aliases.as_slice())?;
+    Ok(lowered_tree(alloc, mode, document, &document.env)?)
+}
+
 /// What is listed of the document that a text is in a mode.
 fn listing<L: Lists>(alloc: Global, lists: &L, mode: Mode, text: &[u8]) -> Result<String, Failure>
     ensures { CameOf mode text.now result }
@@ -361,6 +294,16 @@ pub fn listing_among_many(alloc: Global, mode: Mode, text: &[u8]) -> Result<Stri
     let listed = lowered_listing(alloc, &AmongMany, mode, &mut document);
     drop(document);
     listed
+}
+
+/// What the document that a text is in a mode is lowered to, for a process that has more to do: all that was read is dropped.
+pub fn lowered_among_many(alloc: Global, mode: Mode, text: &[u8]) -> Result<Lowered, Failure>
+    ensures { CameOf mode text.now result }
+{
+    let mut document = read_tree(alloc, mode.root(), text)?;
+    let lowered = lowered_document(alloc, mode, &mut document);
+    drop(document);
+    lowered
 }
 
 /// What is listed of what stands in the input. The words are judged before the input is read.

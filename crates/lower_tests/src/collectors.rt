@@ -1,6 +1,8 @@
 //! Collectors: how their calls are answered, and the stores that they hand out.
 
-use crate::documents::{AskOfDocument, Said, constant_in, own_if, path_in, said_by_error, said_of};
+use crate::documents::{
+    AskOfDocument, Said, constant_in, own_if, path_in, said_by_error, said_of, type_in,
+};
 use crate::in_range::in_range;
 use crate::listings::{said_of_listing, said_of_type_listing};
 use crate::owners::{Owners, are_owners};
@@ -20,22 +22,26 @@ use hir_store::store::ExpressionStore;
 use lower_json::document::{Document, Root};
 use std::alloc::Global;
 
-/// A call of a collector: of the document's constant, absent where it has none, of its path, in which an `impl` is an error or stays, or of
-/// an `impl` without bounds.
+/// A call of a collector: of the document's constant or type, absent where it has none, of its path, or of an `impl` without bounds. An
+/// `impl` in a type or a path is an error or stays.
 #[derive(Clone, Copy)]
 pub enum Call {
     Constant,
     Path,
     OpaquePath,
+    Type,
+    OpaqueType,
     Allocator,
     ErrorImpl,
     OpaqueImpl,
 }
 
-const ALL_CALLS: [Call; 6] = [
+const ALL_CALLS: [Call; 8] = [
     Call::Constant,
     Call::Path,
     Call::OpaquePath,
+    Call::Type,
+    Call::OpaqueType,
     Call::Allocator,
     Call::ErrorImpl,
     Call::OpaqueImpl,
@@ -67,6 +73,8 @@ pub enum Holds {
     },
     /// The listing of the first type.
     FirstType(&'static str),
+    /// How many types are stored, and the listing of the last.
+    Types(u32, &'static str),
     /// The listing of all roots, with sources.
     Listing(&'static str),
 }
@@ -107,6 +115,13 @@ trait Subject {
         collector: &mut ExprCollector<'_, E>,
         choice: &mut I,
     ) -> Answer;
+
+    /// Lowers the type.
+    fn type_ref<E: LowerEnv, I: ImplTraitLower>(
+        &self,
+        collector: &mut ExprCollector<'_, E>,
+        choice: &mut I,
+    ) -> Answer;
 }
 
 impl Subject for Document {
@@ -129,6 +144,15 @@ impl Subject for Document {
             }
             None => Ok(false),
         }
+    }
+
+    fn type_ref<E: LowerEnv, I: ImplTraitLower>(
+        &self,
+        collector: &mut ExprCollector<'_, E>,
+        choice: &mut I,
+    ) -> Answer {
+        let _lowered = collector.lower_type_ref_opt(type_in(self), choice)?;
+        Ok(true)
     }
 }
 
@@ -156,6 +180,8 @@ fn called<E: LowerEnv, S: Subject>(
         Call::Constant => subject.constant(collector),
         Call::Path => subject.path(collector, &mut ErrorImplTrait),
         Call::OpaquePath => subject.path(collector, &mut OpaqueImplTrait),
+        Call::Type => subject.type_ref(collector, &mut ErrorImplTrait),
+        Call::OpaqueType => subject.type_ref(collector, &mut OpaqueImplTrait),
         Call::Allocator => impl_error(alloc, collector),
         Call::ErrorImpl => impl_alone(alloc, collector, &mut ErrorImplTrait),
         Call::OpaqueImpl => impl_alone(alloc, collector, &mut OpaqueImplTrait),
@@ -276,6 +302,10 @@ fn said_of_store(
         Holds::FirstType(text) => {
             said_of_type_listing(alloc, store, source_map, TypeRefId(0), text)
         }
+        Holds::Types(number, text) if store.types_len() == number && number > 0 => {
+            said_of_type_listing(alloc, store, source_map, TypeRefId(number - 1), text)
+        }
+        Holds::Types(..) => Said::Other,
         Holds::Listing(text) => said_of_listing(alloc, store, source_map, text),
     }
 }

@@ -1,7 +1,7 @@
 //! Documents that tests ask about, and how they are answered.
 
 use hir_lower::LowerError;
-use hir_syntax::ast::{ConstArg, GenericArg, Path};
+use hir_syntax::ast::{ConstArg, GenericArg, Path, Type_};
 use lower_json::document::{Document, Root, Tree};
 use lower_json::fault::ReadError;
 use lower_json::read::read_tree;
@@ -59,13 +59,29 @@ pub fn path_in(document: &Document) -> Option<&Path> {
     }
 }
 
-/// The constant in the document of a path: the only argument beside its only name.
-pub fn constant_in(document: &Document) -> Option<&ConstArg> {
+/// The only argument beside the only name of a document's path.
+fn argument_in(document: &Document) -> Option<&GenericArg> {
     match path_in(document)?.segs.as_slice() {
         [Some(segment)] => match segment.generics.as_ref()?.as_slice() {
-            [GenericArg::ConstArg(constant)] => Some(constant),
+            [argument] => Some(argument),
             _ => None,
         },
+        _ => None,
+    }
+}
+
+/// The constant in the document of a path: the only argument beside its only name.
+pub fn constant_in(document: &Document) -> Option<&ConstArg> {
+    match argument_in(document)? {
+        GenericArg::ConstArg(constant) => Some(constant),
+        _ => None,
+    }
+}
+
+/// The type in the document of a path, as the constant is.
+pub fn type_in(document: &Document) -> Option<&Type_> {
+    match argument_in(document)? {
+        GenericArg::TypeArg(argument) => Some(argument.as_ref()?.get()),
         _ => None,
     }
 }

@@ -116,3 +116,43 @@ impl AskOfDocument for AbsentType {
 fn an_absent_type_has_no_node(rt: HostRuntime) {
     assert!(rt; said_of(rt.alloc(), Root::Path, EMPTY, &AbsentType) == Said::Own);
 }
+
+/// Types of one store, as those of a struct's fields: `impl B` as an error and as it stands, each behind the path of its bound, and one that
+/// is absent.
+#[test]
+fn types_are_lowered_one_after_another(rt: HostRuntime) {
+    let alloc = rt.alloc();
+    let error = Script {
+        limit: 2,
+        calls: &[(Call::Type, Ok(true))],
+        holds: Holds::Types(2, "type {error}\n"),
+    };
+    assert!(rt; said_of_calls(alloc, IMPL_IN_A_PATH, &error) == Said::Own);
+    let both = Script {
+        limit: 4,
+        calls: &[(Call::Type, Ok(true)), (Call::OpaqueType, Ok(true))],
+        holds: Holds::Types(4, "type impl B\n"),
+    };
+    assert!(rt; said_of_calls(alloc, IMPL_IN_A_PATH, &both) == Said::Own);
+    let absent = Script {
+        limit: 1,
+        calls: &[(Call::Type, Ok(true))],
+        holds: Holds::Types(1, "type {error}\n"),
+    };
+    assert!(rt; said_of_calls(alloc, EMPTY, &absent) == Said::Own);
+}
+
+/// The path of the bound and the error take the room of two types, so nothing of the next type fits.
+#[test]
+fn a_type_does_not_fit_behind_others(rt: HostRuntime) {
+    let script = Script {
+        limit: 2,
+        calls: &[
+            (Call::Type, Ok(true)),
+            (Call::OpaqueType, Err(LowerError::Full)),
+            (Call::Type, Err(LowerError::Failed)),
+        ],
+        holds: Holds::Failed { exprs: Some(0) },
+    };
+    assert!(rt; said_of_calls(rt.alloc(), IMPL_IN_A_PATH, &script) == Said::Own);
+}

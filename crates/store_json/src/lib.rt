@@ -20,7 +20,8 @@ mod words;
 
 pub use form::ToJson;
 pub use results::{
-    alias_to_json, body_to_json, function_to_json, generics_to_json, impl_to_json, type_to_json,
-    write_alias, write_body, write_function, write_generics, write_impl, write_type,
+    alias_to_json, body_to_json, function_to_json, generics_to_json, impl_to_json, path_to_json,
+    type_to_json, write_alias, write_body, write_function, write_generics, write_impl, write_path,
+    write_type,
 };
-pub use whole::{to_json, write_json};
+pub use whole::{text_of, to_json, write_json};

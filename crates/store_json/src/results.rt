@@ -13,6 +13,7 @@ use hir_base::node::{AstPtr, InFile};
 use hir_store::generics::GenericParams;
 use hir_store::ids::{BindingId, PatId, TypeRefId};
 use hir_store::param::Param;
+use hir_store::path::Path;
 use hir_store::source_map::ExpressionStoreSourceMap;
 use hir_store::store::ExpressionStore;
 use hir_store::type_ref::{TraitRef, TypeBound};
@@ -111,6 +112,40 @@ pub fn type_to_json(
 {
     let mut out = Writer::new(Vec::with_capacity(alloc, 128)?);
     write_type(&mut out, store, source_map, type_ref)?;
+    text_of(out)
+}
+
+/// Writes the result of a path, which may be refused, behind what stands there.
+pub fn write_path(
+    out: &mut Writer,
+    store: &ExpressionStore,
+    source_map: &ExpressionStoreSourceMap,
+    path: &Option<Path>,
+) -> Result<(), AllocError>
+    ensures { OnOk result (Appends ((forms.path_result).to (store.now, source_map.now, path.now)) out.old out.new) }
+{
+    out.begin_object()?;
+    field(out, "format", &1_u32)?;
+    field(out, "path", path)?;
+    field(out, "source_map", source_map)?;
+    field(out, "store", store)?;
+    out.end_object()
+}
+
+/// The result of a path as a text, which reads back as it.
+pub fn path_to_json(
+    alloc: Global,
+    store: &ExpressionStore,
+    source_map: &ExpressionStoreSourceMap,
+    path: &Option<Path>,
+) -> Result<String, AllocError>
+    ensures text { IfOk result (λ s. string_bytes s ≡ compact_text ((forms.path_result).to
+        (store.now, source_map.now, path.now))) }
+    ensures reads_back { IfOk result (λ s. option_and_then (forms.path_result).from (read (string_bytes s))
+        ≡ Some (store.now, source_map.now, path.now)) }
+{
+    let mut out = Writer::new(Vec::with_capacity(alloc, 128)?);
+    write_path(&mut out, store, source_map, path)?;
     text_of(out)
 }
 

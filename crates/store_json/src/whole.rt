@@ -104,7 +104,7 @@ pub fn write_json(
 }
 
 /// What was written, as a text.
-pub(crate) fn text_of(out: Writer) -> Result<String, AllocError>
+pub fn text_of(out: Writer) -> Result<String, AllocError>
     ensures text { IfOk result (λ s. string_bytes s ≡ out.before ++ print out.tokens) }
     ensures tokens { tokens (print out.tokens) ≡ out.tokens }
 {

@@ -58,6 +58,7 @@ pub mod DefStanding
 pub mod TreeParts
 pub mod MadeStanding
 pub mod Fors
+pub mod TreeLists
 pub mod TreeCorresponds
 pub mod GradedBodies
 pub mod AsEmitting

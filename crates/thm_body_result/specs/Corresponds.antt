@@ -6,178 +6,59 @@
 -- missing one and each made up from none; and to each binding with its owner: the innermost closure, coroutine, `const` block, length or
 -- argument around it. What its constants became stands for them, named or not. A top pattern reads back as written, and so does one in a
 -- field without a name, part of nothing; the names of a top pattern have one binding each, and what is in it stands for what is written.
-use Rattle.std.specs.Prelude.{◌≡◌, ℕ, Bool, true, false, List, [], ◌∷◌, ◌++◌, map, Option, Some, None, option_to_list, slice_get, unwrap_or}
-use Rattle.hir_base.specs.declared.op.RangeOp.{RangeOp}
-use Rattle.hir_syntax.specs.declared.ast.Literal.{Literal as AstLiteral}
-use Rattle.hir_store.specs.Pointers.{Pointer}
+use Rattle.std.specs.Prelude.{◌≡◌, Bool, true, false, List, [], ◌∷◌, ◌++◌, map, Option, Some, None, option_to_list, unwrap_or}
 use Rattle.hir_store.specs.Stored.{Store, SourceMap}
 use Rattle.hir_store.specs.declared.hir.Array.TheVariants as array
-use Rattle.hir_store.specs.declared.hir.Expr.{Expr as HirExpr}
 use Rattle.hir_store.specs.declared.hir.Expr.TheVariants as hir
 use Rattle.hir_store.specs.declared.hir.LoopSource.TheVariants as source
 use Rattle.hir_store.specs.declared.hir.MatchArm.{MatchArm}
 use Rattle.hir_store.specs.declared.hir.Statement.{Statement}
 use Rattle.hir_store.specs.declared.hir.Statement.TheVariants as statement
-use Rattle.hir_store.specs.declared.hir.Literal.{Literal}
 use Rattle.hir_store.specs.declared.hir.RecordLitField.{RecordLitField}
 use Rattle.hir_store.specs.declared.hir.RecordSpread.{RecordSpread}
 use Rattle.hir_store.specs.declared.hir.RecordSpread.TheVariants as spread
-use Rattle.hir_store.specs.declared.pat.Pat.{Pat as HirPat}
 use Rattle.hir_store.specs.declared.pat.Pat.TheVariants as pat
 use Rattle.hir_store.specs.declared.pat.RecordFieldPat.{RecordFieldPat}
-use Rattle.hir_store.specs.declared.name.Name.{Name}
-use Rattle.hir_store.specs.declared.name.Name.TheVariants as name
 use Rattle.hir_store.specs.declared.path.Path.{Path}
-use Rattle.hir_store.specs.declared.path.Path.TheVariants.{LangItem}
 use Rattle.hir_store.specs.declared.ids.BindingId.{BindingId}
 use Rattle.hir_store.specs.declared.ids.ExprId.{ExprId}
-use Rattle.hir_store.specs.declared.ids.LabelId.{LabelId}
-use Rattle.hir_store.specs.declared.ids.LangItemId.{LangItemId}
-use Rattle.hir_store.specs.declared.ids.HygieneId.{HygieneId}
 use Rattle.hir_store.specs.declared.ids.PatId.{PatId}
 use Rattle.hir_store.specs.declared.ids.TypeRefId.{TypeRefId}
 use Rattle.hir_store.specs.declared.type_ref.ConstRef.{ConstRef}
 use Rattle.hir_lower_scope.specs.ScopeRibs.{macro_rib, try_rib, barrier_rib, jump_number, innermost_try_rib}
 use Rattle.hir_env.specs.ResolvedTree as tree
 use Rattle.hir_env.specs.ResolvedTree.{Type_, OptionType, Parts, Path as WrittenPath, OptionPath, Segments, Segment, SegmentArgs}
-use Rattle.hir_env.specs.ResolvedTree.{OptionParens}
-use Rattle.hir_env.specs.ResolvedTree.{OptionRet, OptionArgs, Args, Arg, Bounds, Bound, Constant, Listing, Label, Expr, OptionExpr, Exprs}
-use Rattle.hir_env.specs.ResolvedTree.{Fields, Spread, Block, OptionBlock, Stmts, Arms, Guard, RangeForm, Signed, Pat, OptionPat, Pats}
-use Rattle.hir_env.specs.ResolvedTree.{PatFields, Side, TypePat, OptionTypePat, TypePats, Limit, Params, Target, Targets, TargetFields}
+use Rattle.hir_env.specs.ResolvedTree.{OptionParens, OptionRet, OptionArgs, Args, Arg, Bounds, Bound, Constant, Expr, OptionExpr, Exprs}
+use Rattle.hir_env.specs.ResolvedTree.{Fields, Spread, Block, OptionBlock, Stmts, Arms, Guard, Pat, OptionPat, Pats, PatFields, Side}
+use Rattle.hir_env.specs.ResolvedTree.{TypePat, OptionTypePat, TypePats, Limit, Params, Target, Targets, TargetFields}
 use Rattle.hir_env.specs.Conditions.{holds_let}
 use Rattle.hir_env.specs.Targets.{head_pointer}
 use Rattle.spec_data.specs.Closures.{capture_of, kind_of}
-use Rattle.spec_data.specs.Data.{PathData}
 use Rattle.spec_data.specs.Patterns.{is_dots, pattern_data, uses_after, uses_after_part, uses_after_each, written_pat}
-use Rattle.spec_data.specs.Reading.{stored_path, stored_type, stored_args}
+use Rattle.spec_data.specs.Reading.{stored_type, stored_args}
 use Rattle.spec_data.specs.Tops.{params_tops}
 use Rattle.spec_data.specs.Uses.{FirstUses}
-use Rattle.spec_data.specs.Written.{written_path, written_type, written_args, signed_data}
-use Rattle.spec_data.specs.Lookup.{lookup_hygiene}
-use Rattle.spec_semantics.specs.Data.{literal_data, literal_read}
+use Rattle.spec_data.specs.Written.{written_path, written_type, written_args}
 use Rattle.spec_semantics.specs.Left.{is_kept, is_left, gives_value}
 use Rattle.spec_semantics.specs.Contents.{BlockContents}
-use Rattle.thm_body_result.specs.Forms.{leaf_form, unary_form, binary_form, lazy_form, leaving_form, item_or_missing, no_macro}
-use Rattle.thm_body_result.specs.Forms.{path_of_name}
-use Rattle.thm_body_result.specs.Forms.{pat_unary_form, range_fields}
+use Rattle.thm_body_result.specs.Forms.{leaf_form, unary_form, binary_form, lazy_form, leaving_form, pat_unary_form}
 use Rattle.thm_logic.specs.PathSeen.{Seen, nothing_seen, at_first, segments_read, own_read, yields}
-use Rattle.thm_body_result.specs.Leads.{Mappings, No, OneMapping, OneUnled, OneLabelMapping, OneFieldMapping, OnePatFieldMapping, OwnedBy}
-use Rattle.thm_body_result.specs.Leads.{Overtaken, ◌&◌}
-pub use Rattle.thm_body_result.specs.CorrespondsParts.{ExprAt, LabelAt, Open, opened, Absent, There, ThereIf, ReadsAs, SomeExpr}
+use Rattle.thm_body_result.specs.Leads.{Mappings, No, OneMapping, OneUnled, OneFieldMapping, OnePatFieldMapping, OwnedBy, Overtaken, ◌&◌}
+pub use Rattle.thm_body_result.specs.CorrespondsParts.{ExprAt, LabelAt, Open, opened, Absent, There, ThereIf, ReadsAs, SomeExpr, SomeConst}
+pub use Rattle.thm_body_result.specs.CorrespondsParts.{WhereOn, Unless, CorrespondsBefore, WherePath, BehindFront, Names, CorrespondsName}
 pub use Rattle.thm_logic.specs.Statements.{statement_of}
 use Rattle.thm_body_result.specs.CorrespondsMade.{CorrespondsTo, CorrespondsToLoop, CorrespondsToIteration, CorrespondsQuestion}
-use Rattle.thm_body_result.specs.CorrespondsMade.{CorrespondsTry, CorrespondsTypedTry}
-use Rattle.thm_body_result.specs.CorrespondsMade.{CorrespondsWhile}
-use Rattle.thm_body_result.specs.CorrespondsMade.{CorrespondsClosure, CorrespondsCondition, CorrespondsCoroutine, CorrespondsParam}
-use Rattle.thm_body_result.specs.CorrespondsMade.{StoredParams}
+use Rattle.thm_body_result.specs.CorrespondsMade.{CorrespondsTry, CorrespondsTypedTry, CorrespondsWhile, CorrespondsClosure}
+use Rattle.thm_body_result.specs.CorrespondsMade.{CorrespondsCondition, CorrespondsCoroutine, CorrespondsParam, StoredParams}
 use Rattle.thm_body_result.specs.CorrespondsPreludes.{CorrespondsCoroutineClosure}
 pub use Rattle.thm_body_result.specs.CorrespondsReads.{NamesOf, WithNames, ReadsAsPat, ReadsAsTarget, ReadsAsType}
-pub use Rattle.thm_body_result.specs.CorrespondsParts.{SomeConst, WhereOn, Unless, CorrespondsBefore, WherePath, BehindFront, Names}
-pub use Rattle.thm_body_result.specs.CorrespondsParts.{CorrespondsName}
+pub use Rattle.thm_body_result.specs.CorrespondsNodes.{CorrespondsMissing, CorrespondsAlone, CorrespondsOver, CorrespondsOverTwo}
+pub use Rattle.thm_body_result.specs.CorrespondsNodes.{CorrespondsOverThree, CorrespondsRecord, CorrespondsList, CorrespondsPath}
+pub use Rattle.thm_body_result.specs.CorrespondsNodes.{CorrespondsLiteral, InLabel, CorrespondsItem, CorrespondsRange, PatIs}
+pub use Rattle.thm_body_result.specs.CorrespondsNodes.{CorrespondsSigned, CorrespondsSidePath, CorrespondsOneName, CorrespondsNameSide}
+pub use Rattle.thm_body_result.specs.CorrespondsNodes.{CorrespondsTuple, OrIs, RangeIs}
 
 module _ (store : Store) (source_map : SourceMap) where
-  abbrev pub CorrespondsMissing : ExprId → Mappings
-  CorrespondsMissing i = λ ws. ExprAt store source_map i hir.Missing None × OneUnled i ws
-
-  -- a form that names no part
-  abbrev pub CorrespondsAlone : HirExpr → Pointer → ExprId → Mappings
-  CorrespondsAlone e at i = λ ws. ExprAt store source_map i e (Some at) × OneMapping at i ws
-
-  -- a node over one part, and over two, of the form that is made of their numbers
-  abbrev pub CorrespondsOver : {A : Type 0} → (A → HirExpr) → Pointer → (A → Mappings) → ExprId → Mappings
-  CorrespondsOver {A = A} form at S i = λ ws. (part : A) × ExprAt store source_map i (form part) (Some at) × (S part & OneMapping at i) ws
-
-  abbrev pub CorrespondsOverTwo : {A B : Type 0} → (A → B → HirExpr) → Pointer → (A → Mappings) → (B → Mappings) → ExprId → Mappings
-  CorrespondsOverTwo {A = A} {B = B} form at S T i = λ ws.
-      (one : A) × (other : B) × ExprAt store source_map i (form one other) (Some at) × (S one & T other & OneMapping at i) ws
-
-  abbrev pub CorrespondsOverThree : {A B C : Type 0} → (A → B → C → HirExpr) → Pointer → (A → Mappings) → (B → Mappings) → (C → Mappings)
-      → ExprId → Mappings
-  CorrespondsOverThree {A = A} {B = B} {C = C} form at S T U i = λ ws.
-      (one : A) × (other : B) × (third : C) × ExprAt store source_map i (form one other third) (Some at)
-      × (S one & T other & U third & OneMapping at i) ws
-
-  -- of what is stored for a record: its fields, and what the others come from
-  abbrev pub StoredRecord : Type 0
-  StoredRecord = List RecordLitField × RecordSpread
-
-  -- where the path is absent or refused it is missing, without a node
-  abbrev pub CorrespondsRecord : Pointer → Option PathData → (StoredRecord → Mappings) → ExprId → Mappings
-  CorrespondsRecord at None S i = CorrespondsMissing i
-  CorrespondsRecord at (Some d) S i =
-      CorrespondsOverTwo (λ path r. hir.RecordLit path r.0 r.1) at (ReadsAs (stored_path store source_map) d) S i
-
-  -- in front of a tuple with a leading comma stands a missing element
-  abbrev pub CorrespondsList : Pointer → Listing → (List ExprId → Mappings) → ExprId → Mappings
-  CorrespondsList at (tree.tuple_of false) S i = CorrespondsOver hir.Tuple at S i
-  CorrespondsList at (tree.tuple_of true) S i =
-      CorrespondsOverTwo (λ elements front. hir.Tuple (front ∷ elements)) at S CorrespondsMissing i
-  CorrespondsList at tree.array_of S i = CorrespondsOver (λ elements. hir.Array (array.ElementList elements)) at S i
-
-  -- It is read as it was written. An absent or refused path is a missing expression.
-  abbrev pub CorrespondsPath : Pointer → Option PathData → HygieneId → ExprId → Mappings
-  CorrespondsPath at None h i = CorrespondsAlone hir.Missing at i
-  CorrespondsPath at (Some p) h i = λ ws.
-      (path : Path) × (stored_path store source_map path ≡ p) × CorrespondsAlone (hir.Path path (lookup_hygiene p h)) at i ws
-
-  abbrev pub CorrespondsLiteral : Pointer → AstLiteral → ExprId → Mappings
-  CorrespondsLiteral at l i =
-      λ ws. (literal : Literal) × (literal_read literal ≡ literal_data l) × CorrespondsAlone (hir.Literal literal) at i ws
-
-  -- inside the label, where there is one
-  abbrev pub InLabel : Open → Option Label → (Open → Option LabelId → Mappings) → Mappings
-  InLabel rs None S = S rs None
-  InLabel rs (Some l) S = λ ws. (n : LabelId) × LabelAt store source_map n l × (OneLabelMapping l.pointer n & S (opened l n rs) (Some n)) ws
-
-  -- an item of the language comes from no node
-  abbrev pub CorrespondsItem : Option LangItemId → ExprId → Mappings
-  CorrespondsItem item i = λ ws. ExprAt store source_map i (item_or_missing item) None × OneUnled i ws
-
-  -- a range is a record of an item, or a call of one
-  abbrev pub CorrespondsRange : Pointer → RangeForm → (Option ExprId → Mappings) → (Option ExprId → Mappings) → ExprId → Mappings
-  CorrespondsRange at (tree.record_range item last) S T i =
-      CorrespondsOverTwo (λ low high. hir.RecordLit (LangItem item) (range_fields last low high) spread.None) at S T i
-  CorrespondsRange at (tree.call_range item) S T i =
-      CorrespondsOverThree (λ low high callee. hir.Call callee (option_to_list low ++ option_to_list high)) at S T
-      (λ f. CorrespondsItem item f) i
-  CorrespondsRange at tree.itemless_range S T i = CorrespondsOverTwo (λ low high. hir.Missing) at S T i
-
-  -- parts of patterns
-
-  abbrev pub PatIs : PatId → HirPat → Type 0
-  PatIs i p = slice_get store.pats i.0 ≡ Some p
-
-  -- a literal with its minus
-  abbrev pub CorrespondsSigned : Pointer → Signed → ExprId → Mappings
-  CorrespondsSigned at l i =
-      λ ws. (literal : Literal) × (literal_read literal ≡ signed_data l) × CorrespondsAlone (hir.Literal literal) at i ws
-
-  abbrev pub CorrespondsSidePath : Pointer → PathData → ExprId → Mappings
-  CorrespondsSidePath at d i =
-      λ ws. (path : Path) × (stored_path store source_map path ≡ d) × CorrespondsAlone (hir.Path path no_macro) at i ws
-
-  abbrev pub CorrespondsOneName : Pointer → Name → ExprId → Mappings
-  CorrespondsOneName at n i = CorrespondsAlone (hir.Path (path_of_name n) no_macro) at i
-
-  abbrev pub CorrespondsNameSide : Pointer → Name → Option ExprId → Mappings
-  CorrespondsNameSide at name.Missing o = Absent o
-  CorrespondsNameSide at n o = There (λ i. CorrespondsOneName at n i) o
-
-  -- the parts of a tuple, or of what is called
-  abbrev pub CorrespondsTuple : (Option ℕ → List PatId → HirPat) → Bool → (List PatId → Mappings) → PatId → Mappings
-  CorrespondsTuple form comma S i = λ ws.
-      (dots : Option ℕ) × (is : List PatId) × (others : List PatId) × PatIs i (form dots is) × BehindFront comma is others × S others ws
-
-  -- one alternative is that pattern
-  abbrev pub OrIs : List PatId → PatId → Type 0
-  OrIs (j ∷ []) i = j ≡ i
-  OrIs is i = PatIs i (pat.Or is)
-
-  -- without its operator it is missing
-  abbrev pub RangeIs : Option RangeOp → PatId → Option ExprId → Option ExprId → Type 0
-  RangeIs None i low high = PatIs i pat.Missing
-  RangeIs (Some op) i low high = PatIs i (pat.Range op low high)
-
   abbrev mutual
     -- what stands for the constants of types, paths, arguments and bounds
 
@@ -299,25 +180,26 @@ module _ (store : Store) (source_map : SourceMap) where
 
     -- an end of a range in a type: the side, an item, or a call of an item with the side
     pub CorrespondsLimit : Open → Limit → ExprId → Mappings
-    CorrespondsLimit rs (tree.item_limit item) i = CorrespondsItem item i
+    CorrespondsLimit rs (tree.item_limit item) i = CorrespondsItem store source_map item i
     CorrespondsLimit rs (tree.side_limit s) i = CorrespondsLimitSide rs s i
     CorrespondsLimit rs (tree.before_limit item s) i = λ ws.
         (side : ExprId) × (callee : ExprId) × ExprAt store source_map i (hir.Call callee (side ∷ [])) None
-        × (CorrespondsLimitSide rs s side & CorrespondsItem item callee & OneUnled i) ws
+        × (CorrespondsLimitSide rs s side & CorrespondsItem store source_map item callee & OneUnled i) ws
 
     -- what is no side is missing
     pub CorrespondsLimitSide : Open → Side → ExprId → Mappings
-    CorrespondsLimitSide rs tree.no_side i = CorrespondsMissing i
-    CorrespondsLimitSide rs (tree.literal_side at l) i = CorrespondsSigned at l i
-    CorrespondsLimitSide rs (tree.name_side at n _) i = CorrespondsOneName at n i
+    CorrespondsLimitSide rs tree.no_side i = CorrespondsMissing store source_map i
+    CorrespondsLimitSide rs (tree.literal_side at l) i = CorrespondsSigned store source_map at l i
+    CorrespondsLimitSide rs (tree.name_side at n _) i = CorrespondsOneName store source_map at n i
     CorrespondsLimitSide rs (tree.path_side at p) i =
-        WholeMappings rs p & WherePath (written_path p) (λ d. CorrespondsSidePath at d i) (CorrespondsAlone hir.Missing at i)
-    CorrespondsLimitSide rs tree.other_side i = CorrespondsMissing i
+        WholeMappings rs p & WherePath (written_path p) (λ d. CorrespondsSidePath store source_map at d i)
+        (CorrespondsAlone store source_map hir.Missing at i)
+    CorrespondsLimitSide rs tree.other_side i = CorrespondsMissing store source_map i
 
     -- expressions
 
     pub Corresponds : Open → Expr → ExprId → Mappings
-    Corresponds rs (tree.disabled_expr why e) i = CorrespondsMissing i
+    Corresponds rs (tree.disabled_expr why e) i = CorrespondsMissing store source_map i
     Corresponds rs (tree.if_expr at c t e) i = λ ws.
         (condition : ExprId) × (then_branch : ExprId) × (else_branch : Option ExprId)
         × ExprAt store source_map i (hir.If condition then_branch else_branch) (Some at)
@@ -325,22 +207,22 @@ module _ (store : Store) (source_map : SourceMap) where
         & OneMapping at i) ws
     Corresponds rs (tree.block_expr b) i = CorrespondsBlock rs b i
     Corresponds rs (tree.loop_expr at label _ b) i =
-        InLabel rs label (λ inner n ws. (body : ExprId) × ExprAt store source_map i (hir.Loop body n source.Loop) (Some at)
+        InLabel store source_map rs label (λ inner n ws. (body : ExprId) × ExprAt store source_map i (hir.Loop body n source.Loop) (Some at)
         × (CorrespondsBlockPart inner b body & OneMapping at i) ws)
     -- its condition lies under its label, too
     Corresponds rs (tree.while_expr at label _ c b) i =
-        InLabel rs label (λ inner n. CorrespondsWhile store source_map at n
+        InLabel store source_map rs label (λ inner n. CorrespondsWhile store source_map at n
         (λ x. CorrespondsCondition store source_map at (holds_let c) (λ y. CorrespondsPart inner c y) x)
         (λ x. CorrespondsBlockPart inner b x) i)
     -- its head and its pattern lie outside of its label
     Corresponds rs (tree.for_expr at items label _ p h b) i =
         CorrespondsTo store source_map at (head_pointer at h) items (λ x. CorrespondsPart rs h x)
         (λ q. WithNames store source_map p (λ ks. CorrespondsPatPart ks rs p [] q) q)
-        (λ n q l. InLabel rs label (λ inner k. CorrespondsToLoop store source_map at k
+        (λ n q l. InLabel store source_map rs label (λ inner k. CorrespondsToLoop store source_map at k
         (λ t. CorrespondsToIteration store source_map at items n q (λ x. CorrespondsPart inner b x) t) l)) i
     Corresponds rs (tree.question_expr at items e) i =
         CorrespondsQuestion store source_map at items (innermost_try_rib rs) (λ x. CorrespondsPart rs e x) i
-    Corresponds rs (tree.itemless_expr at) i = CorrespondsMissing i
+    Corresponds rs (tree.itemless_expr at) i = CorrespondsMissing store source_map i
     Corresponds rs (tree.try_expr at item tree.no_type number ss e) i =
         CorrespondsTry store source_map at item number (gives_value ss (is_left e))
         (λ label is o. CorrespondsContents (try_rib label false ∷ rs) ss (λ around o. CorrespondsKept around e o) is o) i
@@ -355,28 +237,30 @@ module _ (store : Store) (source_map : SourceMap) where
     Corresponds rs (tree.call_expr at f has_list es) i = λ ws.
         (callee : ExprId) × (arguments : List ExprId) × ExprAt store source_map i (hir.Call callee arguments) (Some at)
         × (CorrespondsPart rs f callee & CorrespondsEach rs es arguments & OneMapping at i) ws
-    Corresponds rs (tree.path_expr at p h) i = WholeMappings rs p & CorrespondsPath at (written_path p) h i
-    Corresponds rs (tree.continue_expr at jump) i = CorrespondsAlone (hir.Continue (jump_number rs jump)) at i
+    Corresponds rs (tree.path_expr at p h) i = WholeMappings rs p & CorrespondsPath store source_map at (written_path p) h i
+    Corresponds rs (tree.continue_expr at jump) i = CorrespondsAlone store source_map (hir.Continue (jump_number rs jump)) at i
     Corresponds rs (tree.break_expr at jump e) i = λ ws.
         (value : Option ExprId) × ExprAt store source_map i (hir.Break (jump_number rs jump) value) (Some at)
         × (CorrespondsPresent rs e value & OneMapping at i) ws
     -- the parentheses became what is in them
     Corresponds rs (tree.paren_expr at e) i = CorrespondsPart rs e i & OneMapping at i
     -- a call that stands for no expression is missing, and the node of another one leads to what it stands for
-    Corresponds rs (tree.macro_expr at called tree.no_expr) i = CorrespondsAlone hir.Missing at i
+    Corresponds rs (tree.macro_expr at called tree.no_expr) i = CorrespondsAlone store source_map hir.Missing at i
     Corresponds rs (tree.macro_expr at called (tree.some_expr e)) i = Corresponds rs e i & OneMapping at i
-    Corresponds rs (tree.literal_expr at l) i = CorrespondsLiteral at l i
-    Corresponds rs (tree.leaf_expr at form) i = CorrespondsAlone (leaf_form form) at i
-    Corresponds rs (tree.unary_expr at form e) i = CorrespondsOver (unary_form form) at (λ x. CorrespondsPart rs e x) i
+    Corresponds rs (tree.literal_expr at l) i = CorrespondsLiteral store source_map at l i
+    Corresponds rs (tree.leaf_expr at form) i = CorrespondsAlone store source_map (leaf_form form) at i
+    Corresponds rs (tree.unary_expr at form e) i = CorrespondsOver store source_map (unary_form form) at (λ x. CorrespondsPart rs e x) i
     Corresponds rs (tree.binary_expr at form a b) i =
-        CorrespondsOverTwo (binary_form form) at (λ x. CorrespondsPart rs a x) (λ y. CorrespondsPart rs b y) i
+        CorrespondsOverTwo store source_map (binary_form form) at (λ x. CorrespondsPart rs a x) (λ y. CorrespondsPart rs b y) i
     Corresponds rs (tree.lazy_expr at op a b) i =
-        CorrespondsOverTwo (lazy_form op) at (λ x. CorrespondsPart rs a x) (λ y. CorrespondsPart rs b y) i
-    Corresponds rs (tree.list_expr at form es) i = CorrespondsList at form (λ is. CorrespondsEach rs es is) i
+        CorrespondsOverTwo store source_map (lazy_form op) at (λ x. CorrespondsPart rs a x) (λ y. CorrespondsPart rs b y) i
+    Corresponds rs (tree.list_expr at form es) i = CorrespondsList store source_map at form (λ is. CorrespondsEach rs es is) i
     Corresponds rs (tree.repeat_expr at e c) i =
-        CorrespondsOverTwo (λ x n. hir.Array (array.Repeat x n)) at (λ x. CorrespondsPart rs e x) (λ n. CorrespondsConstant rs c n) i
+        CorrespondsOverTwo store source_map (λ x n. hir.Array (array.Repeat x n)) at
+        (λ x. CorrespondsPart rs e x) (λ n. CorrespondsConstant rs c n) i
     -- the block in it came from the same node, which leads to the const block alone
-    Corresponds rs (tree.const_expr at c) i = OwnedBy i (CorrespondsOver hir.Const at (λ n. Overtaken at (CorrespondsRooted rs c n)) i)
+    Corresponds rs (tree.const_expr at c) i =
+        OwnedBy i (CorrespondsOver store source_map hir.Const at (λ n. Overtaken at (CorrespondsRooted rs c n)) i)
     -- no jump in it reaches what is open around it, and it owns what is bound in it
     Corresponds rs (tree.closure_expr at moves is_static xs t e) i =
         OwnedBy i (CorrespondsClosure store source_map at (kind_of is_static e) (capture_of moves)
@@ -388,33 +272,35 @@ module _ (store : Store) (source_map : SourceMap) where
         (λ l. CorrespondsParams (barrier_rib ∷ rs) xs l) (λ y. ReadsAsType store source_map t (PresentTypeMappings (barrier_rib ∷ rs) t) y)
         (λ x. CorrespondsPart (barrier_rib ∷ rs) e x) i)
     Corresponds rs (tree.method_call_expr at e name es generics) i =
-        CorrespondsOverThree (λ receiver arguments g. hir.MethodCall receiver name g arguments) at
+        CorrespondsOverThree store source_map (λ receiver arguments g. hir.MethodCall receiver name g arguments) at
         (λ x. CorrespondsPart rs e x) (λ is. CorrespondsEach rs es is)
         (λ g. ArgsMappings rs generics & ReadsAs (stored_args store source_map) (written_args generics) g) i
     Corresponds rs (tree.cast_expr at e t) i =
-        CorrespondsOverTwo hir.Cast at (λ x. CorrespondsPart rs e x)
+        CorrespondsOverTwo store source_map hir.Cast at (λ x. CorrespondsPart rs e x)
         (λ y. TypePartMappings rs t & ReadsAs (stored_type store source_map) (written_type t) y) i
     Corresponds rs (tree.record_expr at p head fs s) i =
-        WholeMappings rs p & CorrespondsRecord at (written_path p) (λ r. CorrespondsFields rs fs r.0 & CorrespondsOthers rs s r.1) i
+        WholeMappings rs p & CorrespondsRecord store source_map at (written_path p)
+        (λ r. CorrespondsFields rs fs r.0 & CorrespondsOthers rs s r.1) i
     Corresponds rs (tree.offset_of_expr at t names) i =
-        CorrespondsOver (λ container. hir.OffsetOf container names) at
+        CorrespondsOver store source_map (λ container. hir.OffsetOf container names) at
         (λ y. TypePartMappings rs t & ReadsAs (stored_type store source_map) (written_type t) y) i
-    Corresponds rs (tree.leaving_expr at form e) i = CorrespondsOver (leaving_form form) at (λ o. CorrespondsPresent rs e o) i
-    Corresponds rs (tree.become_expr at e) i = CorrespondsOver hir.Become at (λ x. CorrespondsPart rs e x) i
-    Corresponds rs (tree.yield_expr at e) i = CorrespondsOver hir.Yield at (λ o. CorrespondsPresent rs e o) i
-    Corresponds rs (tree.await_expr at location e) i = CorrespondsOver hir.Await at (λ x. CorrespondsPart rs e x) i
+    Corresponds rs (tree.leaving_expr at form e) i =
+        CorrespondsOver store source_map (leaving_form form) at (λ o. CorrespondsPresent rs e o) i
+    Corresponds rs (tree.become_expr at e) i = CorrespondsOver store source_map hir.Become at (λ x. CorrespondsPart rs e x) i
+    Corresponds rs (tree.yield_expr at e) i = CorrespondsOver store source_map hir.Yield at (λ o. CorrespondsPresent rs e o) i
+    Corresponds rs (tree.await_expr at location e) i = CorrespondsOver store source_map hir.Await at (λ x. CorrespondsPart rs e x) i
     -- the operand stands in the store, and is part of nothing
-    Corresponds rs (tree.nameless_expr at e) i = CorrespondsOver (λ x. hir.Missing) at (λ x. CorrespondsPart rs e x) i
+    Corresponds rs (tree.nameless_expr at e) i = CorrespondsOver store source_map (λ x. hir.Missing) at (λ x. CorrespondsPart rs e x) i
     Corresponds rs (tree.let_expr at p e) i =
-        CorrespondsOverTwo hir.Let at (λ q. WithNames store source_map p (λ ks. CorrespondsPatPart ks rs p [] q) q)
+        CorrespondsOverTwo store source_map hir.Let at (λ q. WithNames store source_map p (λ ks. CorrespondsPatPart ks rs p [] q) q)
         (λ x. CorrespondsPart rs e x) i
     Corresponds rs (tree.match_expr at e arms) i =
-        CorrespondsOverTwo hir.Match at (λ x. CorrespondsPart rs e x) (λ as'. CorrespondsArms rs arms as') i
+        CorrespondsOverTwo store source_map hir.Match at (λ x. CorrespondsPart rs e x) (λ as'. CorrespondsArms rs arms as') i
     Corresponds rs (tree.range_expr at form low high) i =
-        CorrespondsRange at form (λ o. CorrespondsPresent rs low o) (λ o. CorrespondsPresent rs high o) i
+        CorrespondsRange store source_map at form (λ o. CorrespondsPresent rs low o) (λ o. CorrespondsPresent rs high o) i
     -- the target before the value
     Corresponds rs (tree.assign_expr at own t e) i =
-        CorrespondsOverTwo hir.Assignment at (λ q. ReadsAsTarget store source_map t (CorrespondsTarget rs t q) q)
+        CorrespondsOverTwo store source_map hir.Assignment at (λ q. ReadsAsTarget store source_map t (CorrespondsTarget rs t q) q)
         (λ x. CorrespondsPart rs e x) i
 
     -- a disabled parameter becomes nothing
@@ -426,7 +312,7 @@ module _ (store : Store) (source_map : SourceMap) where
         (λ y. ReadsAsType store source_map t (PresentTypeMappings rs t) y) (λ others. CorrespondsParams rs xs others) l
 
     pub CorrespondsPart : Open → OptionExpr → ExprId → Mappings
-    CorrespondsPart rs tree.no_expr i = CorrespondsMissing i
+    CorrespondsPart rs tree.no_expr i = CorrespondsMissing store source_map i
     CorrespondsPart rs (tree.some_expr e) i = Corresponds rs e i
 
     pub CorrespondsPresent : Open → OptionExpr → Option ExprId → Mappings
@@ -473,13 +359,14 @@ module _ (store : Store) (source_map : SourceMap) where
     -- it has what its statements and its tail became, of which the last statement may be its tail
     pub CorrespondsBlock : Open → Block → ExprId → Mappings
     CorrespondsBlock rs (tree.block at is_unsafe label _ number ss e) i =
-        InLabel rs label (λ inner n ws. (kept : List Statement) × (last : Option ExprId) × (contents : List Statement × Option ExprId)
+        InLabel store source_map rs label (λ inner n ws. (kept : List Statement) × (last : Option ExprId)
+        × (contents : List Statement × Option ExprId)
         × BlockContents (gives_value ss (is_left e)) kept last contents
         × ExprAt store source_map i (hir.Block is_unsafe n number contents.0 contents.1) (Some at)
         × (CorrespondsContents inner ss (λ around o. CorrespondsKept around e o) kept last & OneMapping at i) ws)
 
     pub CorrespondsBlockPart : Open → OptionBlock → ExprId → Mappings
-    CorrespondsBlockPart rs tree.no_block i = CorrespondsMissing i
+    CorrespondsBlockPart rs tree.no_block i = CorrespondsMissing store source_map i
     CorrespondsBlockPart rs (tree.some_block b) i = CorrespondsBlock rs b i
 
     pub CorrespondsPresentBlock : Open → OptionBlock → Option ExprId → Mappings
@@ -514,34 +401,37 @@ module _ (store : Store) (source_map : SourceMap) where
     pub CorrespondsPat : Names → Open → Pat → FirstUses → PatId → Mappings
     CorrespondsPat ks rs (tree.leaf_pat at form) us i = No
     CorrespondsPat ks rs (tree.bind_pat at u _ sub) us i = λ ws.
-        (b : BindingId) × (o : Option PatId) × PatIs i (pat.Bind b o)
+        (b : BindingId) × (o : Option PatId) × PatIs store source_map i (pat.Bind b o)
         × (CorrespondsSubpat ks rs sub us o & CorrespondsName ks (uses_after_part sub us) u b) ws
     CorrespondsPat ks rs (tree.name_pat at u _) us i = No
     CorrespondsPat ks rs (tree.path_pat at p) us i = WholeMappings rs p
     CorrespondsPat ks rs (tree.tuple_struct_pat at p comma ps) us i =
         WholeMappings rs p
         & WherePath (written_path p) (λ d ws. (path : Path)
-        × CorrespondsTuple (λ dots is. pat.TupleStruct path dots is) comma (λ is. CorrespondsElements ks rs ps us is) i ws) No
+        × CorrespondsTuple store source_map (λ dots is. pat.TupleStruct path dots is) comma
+        (λ is. CorrespondsElements ks rs ps us is) i ws) No
     CorrespondsPat ks rs (tree.tuple_pat at comma ps) us i =
-        CorrespondsTuple (λ dots is. pat.Tuple dots is) comma (λ is. CorrespondsElements ks rs ps us is) i
+        CorrespondsTuple store source_map (λ dots is. pat.Tuple dots is) comma (λ is. CorrespondsElements ks rs ps us is) i
     CorrespondsPat ks rs (tree.record_pat at p fs dots) us i =
         WholeMappings rs p
-        & WherePath (written_path p) (λ d ws. (path : Path) × (is : List RecordFieldPat) × PatIs i (pat.Record path is dots)
+        & WherePath (written_path p) (λ d ws. (path : Path) × (is : List RecordFieldPat)
+        × PatIs store source_map i (pat.Record path is dots)
         × CorrespondsPatFields ks rs fs us is ws) No
-    CorrespondsPat ks rs (tree.or_pat at ps) us i = λ ws. (is : List PatId) × OrIs is i × CorrespondsPats ks rs ps us is ws
+    CorrespondsPat ks rs (tree.or_pat at ps) us i = λ ws. (is : List PatId) × OrIs store source_map is i × CorrespondsPats ks rs ps us is ws
     CorrespondsPat ks rs (tree.paren_pat at p) us i = CorrespondsPatPart ks rs p us i
     CorrespondsPat ks rs (tree.macro_pat at called p) us i = CorrespondsPatPart ks rs p us i
     CorrespondsPat ks rs (tree.barred_pat at) us i = No
     CorrespondsPat ks rs (tree.slice_pat at before middle behind) us i = λ ws.
-        (bs : List PatId) × (m : Option PatId) × (as' : List PatId) × PatIs i (pat.Slice bs m as')
+        (bs : List PatId) × (m : Option PatId) × (as' : List PatId) × PatIs store source_map i (pat.Slice bs m as')
         × (CorrespondsPats ks rs before us bs & CorrespondsSubpat ks rs middle (uses_after_each before us) m
         & CorrespondsPats ks rs behind (uses_after_part middle (uses_after_each before us)) as') ws
     CorrespondsPat ks rs (tree.over_pat at form p) us i = λ ws.
-        (j : PatId) × PatIs i (pat_unary_form form j) × CorrespondsPatPart ks rs p us j ws
+        (j : PatId) × PatIs store source_map i (pat_unary_form form j) × CorrespondsPatPart ks rs p us j ws
     CorrespondsPat ks rs (tree.literal_pat at own l) us i = λ ws.
-        (e : ExprId) × PatIs i (pat.Lit e) × CorrespondsSigned (unwrap_or own at) l e ws
+        (e : ExprId) × PatIs store source_map i (pat.Lit e) × CorrespondsSigned store source_map (unwrap_or own at) l e ws
     CorrespondsPat ks rs (tree.range_pat at op low high) us i = λ ws.
-        (s : Option ExprId) × (e : Option ExprId) × RangeIs op i s e × (CorrespondsSide rs low s & CorrespondsSide rs high e) ws
+        (s : Option ExprId) × (e : Option ExprId) × RangeIs store source_map op i s e
+        × (CorrespondsSide rs low s & CorrespondsSide rs high e) ws
 
     pub CorrespondsPatPart : Names → Open → OptionPat → FirstUses → PatId → Mappings
     CorrespondsPatPart ks rs tree.no_pat us i = No
@@ -580,32 +470,33 @@ module _ (store : Store) (source_map : SourceMap) where
     -- what is no side is absent
     pub CorrespondsSide : Open → Side → Option ExprId → Mappings
     CorrespondsSide rs tree.no_side o = Absent o
-    CorrespondsSide rs (tree.literal_side at l) o = There (λ i. CorrespondsSigned at l i) o
-    CorrespondsSide rs (tree.name_side at n _) o = CorrespondsNameSide at n o
+    CorrespondsSide rs (tree.literal_side at l) o = There (λ i. CorrespondsSigned store source_map at l i) o
+    CorrespondsSide rs (tree.name_side at n _) o = CorrespondsNameSide store source_map at n o
     CorrespondsSide rs (tree.path_side at p) o =
-        WholeMappings rs p & WherePath (written_path p) (λ d. There (λ i. CorrespondsSidePath at d i) o) (Absent o)
+        WholeMappings rs p & WherePath (written_path p) (λ d. There (λ i. CorrespondsSidePath store source_map at d i) o) (Absent o)
     CorrespondsSide rs tree.other_side o = Absent o
 
     -- the assignee expression
 
     pub CorrespondsTarget : Open → Target → PatId → Mappings
     CorrespondsTarget rs (tree.absent_target call) i = No
-    CorrespondsTarget rs (tree.place_target at e) i = λ ws. (x : ExprId) × PatIs i (pat.Expr x) × Corresponds rs e x ws
+    CorrespondsTarget rs (tree.place_target at e) i = λ ws. (x : ExprId) × PatIs store source_map i (pat.Expr x) × Corresponds rs e x ws
     CorrespondsTarget rs (tree.macro_target at called t) i = CorrespondsTarget rs t i
     CorrespondsTarget rs (tree.wild_target at) i = No
     CorrespondsTarget rs (tree.path_target at p h) i = PathMappings rs p nothing_seen
     CorrespondsTarget rs (tree.tuple_target at ts) i =
-        CorrespondsTuple (λ dots is. pat.Tuple dots is) false (λ is. CorrespondsTargets rs ts is) i
+        CorrespondsTuple store source_map (λ dots is. pat.Tuple dots is) false (λ is. CorrespondsTargets rs ts is) i
     CorrespondsTarget rs (tree.call_target at p ts) i =
         WholeMappings rs p
         & WherePath (written_path p) (λ d ws. (path : Path)
-        × CorrespondsTuple (λ dots is. pat.TupleStruct path dots is) false (λ is. CorrespondsTargets rs ts is) i ws) No
+        × CorrespondsTuple store source_map (λ dots is. pat.TupleStruct path dots is) false (λ is. CorrespondsTargets rs ts is) i ws) No
     CorrespondsTarget rs (tree.array_target at before dots behind) i = λ ws.
-        (bs : List PatId) × (m : Option PatId) × (as' : List PatId) × PatIs i (pat.Slice bs m as')
+        (bs : List PatId) × (m : Option PatId) × (as' : List PatId) × PatIs store source_map i (pat.Slice bs m as')
         × (CorrespondsTargets rs before bs & CorrespondsTargets rs behind as') ws
     CorrespondsTarget rs (tree.record_target at p fs dots spread) i =
         WholeMappings rs p
-        & WherePath (written_path p) (λ d ws. (path : Path) × (is : List RecordFieldPat) × PatIs i (pat.Record path is dots)
+        & WherePath (written_path p) (λ d ws. (path : Path) × (is : List RecordFieldPat)
+        × PatIs store source_map i (pat.Record path is dots)
         × CorrespondsTargetFields rs fs is ws) No
 
     pub CorrespondsTargets : Open → Targets → List PatId → Mappings

@@ -13,6 +13,7 @@ pub mod CorrespondsParts
 pub mod CorrespondsReads
 pub mod CorrespondsMade
 pub mod CorrespondsPreludes
+pub mod CorrespondsNodes
 pub mod Corresponds
 pub mod CorrespondsWhole
 pub mod Theorems

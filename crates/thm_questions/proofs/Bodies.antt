@@ -1,5 +1,5 @@
 -- Parameters and body of an item are framed by what is asked of the item, of them and of how many calls may be entered.
-use Rattle.std.proofs.Common.{◌≡◌, ◌∙◌, refl, if◌then◌else◌, Bool, true, false, List, [], ◌∷◌, ◌++◌, Option, Some, None, is_some, codes}
+use Rattle.std.proofs.Common.{◌≡◌, ◌∙◌, refl, if◌then◌else◌, Bool, true, false, List, [], ◌∷◌, Option, Some, None, is_some, codes}
 use Rattle.hir_base.specs.declared.node.HirFileId.{HirFileId}
 use Rattle.hir_base.specs.declared.node.NodeId.{NodeId}
 use Rattle.hir_syntax.specs.declared.ast.Expr.{Expr as AstExpr}

@@ -3,12 +3,13 @@ use Rattle.std.proofs.Common.{refl}
 use Rattle.thm_result_json.specs.Codec.{Faithful}
 use Rattle.thm_result_json.specs.Numbers.{binding_id, pat_id}
 use Rattle.thm_result_json.specs.Results.{alias, alias_fields, body, body_fields, formal, formal_fields, function, function_fields}
-use Rattle.thm_result_json.specs.Results.{generics, generics_fields, impl_fields, impl_result, trait_ref, type_fields, type_result}
+use Rattle.thm_result_json.specs.Results.{generics, generics_fields, impl_fields, impl_result, path_fields, path_result, trait_ref}
+use Rattle.thm_result_json.specs.Results.{type_fields, type_result}
 use Rattle.thm_result_json.proofs.Codecs.{Kept, flags, by_mapping, keys, lasts, listing_faithful, makes, maybes, reads, versions}
 use Rattle.thm_result_json.proofs.Maps.{source_map_theorem, store_theorem}
 use Rattle.thm_result_json.proofs.Numbers.{binding_id_theorem, pat_id_theorem, pointer_theorem, type_id_theorem}
 use Rattle.thm_result_json.proofs.Params.{generic_params_theorem}
-use Rattle.thm_result_json.proofs.Paths.{bound_theorem}
+use Rattle.thm_result_json.proofs.Paths.{bound_theorem, path_theorem}
 
 pat_formal_kept : Kept (formal_fields pat_id) 0
 pat_formal_kept = keys "formal" (reads pat_id_theorem) (lasts "user_written" (reads pat_id_theorem)) (λ d x. refl)
@@ -49,6 +50,16 @@ type_kept =
 
 pub type_theorem : Faithful type_result 14
 type_theorem = makes (λ r. (r.1, (r.0, r.2))) (λ v. (v.1.0, v.0, v.1.1)) type_kept (λ r. refl)
+
+path_kept : Kept path_fields 13
+path_kept =
+    versions "format" 1
+    (keys "path" (maybes path_theorem)
+    (keys "source_map" (reads source_map_theorem)
+    (lasts "store" (reads store_theorem)) (λ d x. refl)) (λ d x. refl)) (λ d x. refl)
+
+pub path_result_theorem : Faithful path_result 14
+path_result_theorem = makes (λ r. (r.2, (r.1, r.0))) (λ v. (v.1.1, v.1.0, v.0)) path_kept (λ r. refl)
 
 generics_kept : Kept generics_fields 13
 generics_kept =

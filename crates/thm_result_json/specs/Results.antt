@@ -7,13 +7,14 @@ use Rattle.hir_store.specs.declared.ids.BindingId.{BindingId}
 use Rattle.hir_store.specs.declared.ids.PatId.{PatId}
 use Rattle.hir_store.specs.declared.ids.TypeRefId.{TypeRefId}
 use Rattle.hir_store.specs.declared.param.Param.{Param}
+use Rattle.hir_store.specs.declared.path.Path.{Path}
 use Rattle.hir_store.specs.declared.type_ref.TraitRef.{TraitRef}
 use Rattle.hir_store.specs.declared.type_ref.TypeBound.{TypeBound}
 use Rattle.thm_result_json.specs.Codec.{Codec, Fields, bool_codec, by, key, last, listing, made, maybe, version}
 use Rattle.thm_result_json.specs.Maps.{source_map, store}
 use Rattle.thm_result_json.specs.Numbers.{binding_id, pat_id, pointer, type_id}
 use Rattle.thm_result_json.specs.Params.{generic_params}
-use Rattle.thm_result_json.specs.Paths.{bound}
+use Rattle.thm_result_json.specs.Paths.{bound, path}
 
 -- `{"formal": 0, "user_written": 0}`
 abbrev pub formal_fields : {T : Type 0} → Codec T → Fields (T × T)
@@ -55,6 +56,17 @@ type_fields = version "format" 1 (key "source_map" source_map (key "store" store
 
 abbrev pub type_result : Codec TypeResult
 type_result = made (λ r. (r.1, (r.0, r.2))) (λ v. (v.1.0, v.0, v.1.1)) type_fields
+
+-- a path: the store, the source map, and the path, if it isn't refused
+abbrev pub PathResult : Type 0
+PathResult = Store × SourceMap × Option Path
+
+-- `{"format": 1, "path": null, "source_map": .., "store": ..}`
+abbrev pub path_fields : Fields (Option Path × (SourceMap × Store))
+path_fields = version "format" 1 (key "path" (maybe path) (key "source_map" source_map (last "store" store)))
+
+abbrev pub path_result : Codec PathResult
+path_result = made (λ r. (r.2, (r.1, r.0))) (λ v. (v.1.1, v.1.0, v.0)) path_fields
 
 -- parameters of an item, or a trait: the store, the source map, and the parameters
 abbrev pub GenericsResult : Type 0

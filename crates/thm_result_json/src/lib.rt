@@ -10,7 +10,7 @@ ghost use Rattle.thm_result_json.specs.Params.{generic_params};
 ghost use Rattle.thm_result_json.specs.Paths.{generic_args, path};
 ghost use Rattle.thm_result_json.specs.Pats.{binding, pat};
 ghost use Rattle.thm_result_json.specs.Whole.{whole};
-ghost use Rattle.thm_result_json.specs.Results.{alias, body, function, generics, impl_result, type_result};
+ghost use Rattle.thm_result_json.specs.Results.{alias, body, function, generics, impl_result, path_result, type_result};
 ghost use Rattle.thm_result_json.specs.Types.{lifetime, type_ref};
 
 /// What is written of a store and its source map reads back as these, and nests far less than JSON may.
@@ -22,6 +22,7 @@ pub fn result_reads_back()
 pub fn answers_read_back()
     ensures bodies { Faithful body 14 }
     ensures types { Faithful type_result 14 }
+    ensures paths { Faithful path_result 14 }
     ensures generics { Faithful generics 14 }
     ensures impls { Faithful impl_result 14 }
     ensures aliases { Faithful alias 14 }

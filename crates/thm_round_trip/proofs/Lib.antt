@@ -1,5 +1,6 @@
 pub mod Layers
 pub mod Generics
+pub mod WalkItems
 pub mod Walk
 pub mod Going
 pub mod Names

@@ -1,6 +1,6 @@
 -- The walk and the rule, segment by segment.
-use Rattle.std.proofs.Common.{arith, ◌≡◌, ◌≤◌, ◌∙◌, refl, sym, ap, subst, ℕ, zero, suc, ◌+◌, List, [], ◌∷◌, ◌++◌}
-use Rattle.std.proofs.Common.{Option, Some, None, Bool, true, false}
+use Rattle.std.proofs.Common.{arith, ◌≡◌, ◌≤◌, ◌∙◌, refl, sym, ap, subst, ℕ, zero, suc, ◌+◌, List, [], ◌∷◌, ◌++◌, Option, Some, None, Bool}
+use Rattle.std.proofs.Common.{true, false}
 use Rattle.std.specs.Prelude.{reverse, map, ◌&&◌, ◌||◌, not, is_some, is_none, if◌then◌else◌, option_map}
 use Rattle.std.proofs.lemmas.List.{reverse-append, reverse-reverse, map-append}
 use Rattle.hir_store.specs.Stored.{Stored, store_of, map_of}
@@ -24,90 +24,15 @@ use Rattle.spec_data.specs.Data as datum
 use Rattle.spec_data.specs.Data.{TypeData, OptionArgsData, no_args}
 use Rattle.spec_data.specs.Rule as rule
 use Rattle.spec_data.specs.Rule.{Named, PathRead, What, Item, broken, named, root, self_, super_, anchor, projection, empty_list}
-use Rattle.spec_data.specs.Rule.{plain_kind, supers, is_list, anchor_data, names_data, data_of, read_of, path_read}
-use Rattle.spec_data.specs.Rule.{ends, ended, read, refuses, refused, set_kind, supers_left, counted, open_kind, first_behind_self}
-use Rattle.spec_data.specs.Rule.{last_behind_self, first_without_self, last_without_self, ending_self, read_kind, own_kind, anchor_of}
-use Rattle.spec_data.specs.Rule.{found}
+use Rattle.spec_data.specs.Rule.{plain_kind, supers, is_list, anchor_data, names_data, data_of, read_of, path_read, ends, ended, read}
+use Rattle.spec_data.specs.Rule.{refuses, refused, set_kind, supers_left, counted, open_kind, first_behind_self, last_behind_self}
+use Rattle.spec_data.specs.Rule.{first_without_self, last_without_self, ending_self, read_kind, own_kind, anchor_of, found}
 use Rattle.spec_data.specs.Reading.{names_alone, names_beside, present_layer}
 use Rattle.spec_data.specs.Written as written
 use Rattle.thm_round_trip.proofs.Layers.{a_list, a_path, within}
 use Rattle.thm_round_trip.proofs.Generics.{self_first_read, self_flag}
-
-abbrev holds : Bool → Type 0
-holds true = Unit {0}
-holds false = ⊥
-
-pub clash : true ≡ false → ⊥
-clash h = subst holds h tt
-
--- one word for each
-
-same_supers : (k : PathKind) → walks.supers k ≡ supers k
-same_supers kind.Plain = refl
-same_supers (kind.Super n) = refl
-same_supers kind.Crate = refl
-same_supers kind.Abs = refl
-same_supers (kind.DollarCrate c) = refl
-
-same_plain : (k : PathKind) → walks.is_plain k ≡ plain_kind k
-same_plain kind.Plain = refl
-same_plain (kind.Super n) = refl
-same_plain kind.Crate = refl
-same_plain kind.Abs = refl
-same_plain (kind.DollarCrate c) = refl
-
-same_crate : (c : Option CrateId) → walks.crate_kind c ≡ written.crate_kind c
-same_crate None = refl
-same_crate (Some c) = refl
-
--- lists
-
-abbrev pub name_at : Named → Name
-name_at n = n.name
-
-abbrev pub args_at : Named → OptionArgsData
-args_at n = n.args
-
-pub map_reverse : {A B : Type 0} (f : A → B) (xs : List A) → map f (reverse xs) ≡ reverse (map f xs)
-map_reverse f [] = refl
-map_reverse f (x ∷ xs) =
-    ap (map f) (reverse-append (x ∷ []) xs)
-    ∙ (map-append f (reverse xs) (x ∷ [])
-    ∙ (ap (λ l. l ++ f x ∷ []) (map_reverse f xs)
-    ∙ sym (reverse-append (f x ∷ []) (map f xs))))
-
-no_names_snoc : (xs : List Name) (x : Name) → walks.no_names (xs ++ x ∷ []) ≡ false
-no_names_snoc [] x = refl
-no_names_snoc (y ∷ xs) x = refl
-
--- as many in the order of reading
-empty_names : (ns : List Named) → walks.no_names (map name_at (reverse ns)) ≡ empty_list ns
-empty_names [] = refl
-empty_names (n ∷ ns) =
-    ap (λ xs. walks.no_names (map name_at xs)) (reverse-append (n ∷ []) ns)
-    ∙ (ap walks.no_names (map-append name_at (reverse ns) (n ∷ [])) ∙ no_names_snoc (map name_at (reverse ns)) n.name)
-
-empty_mapped : (ns : List Named) → walks.no_names (map name_at ns) ≡ empty_list ns
-empty_mapped [] = refl
-empty_mapped (n ∷ ns) = refl
-
-or_true : (a b : Bool) → b ≡ true → (a || b) ≡ true
-or_true false b h = h
-or_true true b h = refl
-
-or_swap : (a b c d : Bool) → a ≡ c → b ≡ d → (a || b) ≡ (d || c)
-or_swap false false c d e f = rw (← e) (rw (← f) refl)
-or_swap false true c d e f = rw (← e) (rw (← f) refl)
-or_swap true false c d e f = rw (← e) (rw (← f) refl)
-or_swap true true c d e f = rw (← e) (rw (← f) refl)
-
-pub read_whole : (is : List Item) → ended is ≡ false → read is ≡ is
-read_whole [] h = refl
-read_whole (i ∷ is) h = by (ends i.what (rule.names is)) h
-  where
-    by : (e : Bool) → (e || ended is) ≡ false → (if ended is then read is else i ∷ is) ≡ i ∷ is
-    by false h = rw h refl
-    by true h = absurd (clash h)
+use Rattle.thm_round_trip.proofs.WalkItems.{empty_mapped, empty_names, or_swap, or_true, same_crate, same_plain, same_supers}
+pub use Rattle.thm_round_trip.proofs.WalkItems.{args_at, clash, map_reverse, name_at, read_whole}
 
 -- what a walk that has read these items has found, when so many types are stored
 

@@ -32,6 +32,11 @@ const fn fixed() -> u8 {
 }
 
 fn without_body() {}
+
+#[unsafe(no_mangle)]
+pub extern "C" fn exported() -> u8 {
+    fixed()
+}
 """
 
 
@@ -54,10 +59,20 @@ class CrateFunctions(SmallCrate):
         self.assertEqual((functions["second"].name, functions["second"].proof), ("second", "second"))
         self.assertEqual((functions["go"].name, functions["go"].proof), ("inner::pairs::Pair::go", "inner/pairs/Pair/+going"))
         self.assertEqual((functions["other"].name, functions["other"].types()), ("", {"Pair"}))
+        self.assertEqual(functions["exported"].name, "inner::pairs::exported")
+
+    def test_what_a_check_may_call_one(self):
+        self.functions()
+        whole = self.all_functions()
+        called = {it: [of.word for of in whole.called(it)] for it in (
+            "second", "inner::second", "inner::pairs::Pair::go", "inner::pairs::go", "inner::pairs::PairOther::other", "inner::PairOther::other",
+            "other",
+        )}
+        self.assertEqual({it for it, found in called.items() if found}, {"second", "inner::pairs::Pair::go", "inner::pairs::PairOther::other"})
 
     def test_what_can_be_emptied(self):
         can = {word for word, it in self.functions().items() if it.can_be_emptied()}
-        self.assertEqual(can, {"one", "second", "go"})
+        self.assertEqual(can, {"one", "second", "go", "exported"})
 
     def test_where_the_text_of_one_begins(self):
         function = self.functions()["second"]

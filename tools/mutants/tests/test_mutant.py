@@ -39,6 +39,16 @@ class Mutants(SmallCrate):
         self.mutant("a", "second", "result ≡ 2", "result ≡ 3")
         self.assertEqual(self.only().wrong, "it stands in a clause or behind the body, and not in it")
 
+    def test_what_it_is_for_is_a_function_of_the_crate(self):
+        self.put(f"{self.folder}/src/inner.rt", "pub fn third() -> u8\n    ensures { result ≡ 3 }\n{\n    3\n}\n")
+        self.mutant("a", "inner::third", "    3", "    4", "src/inner.rt")
+        self.assertEqual(self.only().wrong, "")
+        for name in ("third", "other::third", "inner::third::third", "inner::fourth"):
+            self.mutant("a", name, "    3", "    4", "src/inner.rt")
+            self.assertEqual(self.only().wrong, f"no function of its crate is called `{name}`")
+        self.mutant("a", "six_is_seven", "six = 6", "six = 7", "specs/Numbers.antt")
+        self.assertEqual(self.only().wrong, "no function of its crate is called `six_is_seven`")
+
     def test_its_control_has_nothing_wrong(self):
         self.mutant("a", "second", "one() + 1", "one() + 2", measured="goals: returns")
         control = self.only().control()

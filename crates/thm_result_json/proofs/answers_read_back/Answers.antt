@@ -1,4 +1,5 @@
-use Rattle.thm_result_json.proofs.Results.{alias_theorem, body_theorem, function_theorem, generics_theorem, impl_theorem, type_theorem}
+use Rattle.thm_result_json.proofs.Results.{alias_theorem, body_theorem, function_theorem, generics_theorem, impl_theorem}
+use Rattle.thm_result_json.proofs.Results.{path_result_theorem, type_theorem}
 use Rattle.thm_result_json.proofs.answers_read_back.Goals as goal
 
 pub returns-clause-bodies : goal.returns-clause-bodies
@@ -6,6 +7,9 @@ returns-clause-bodies c = body_theorem
 
 pub returns-clause-types : goal.returns-clause-types
 returns-clause-types c = type_theorem
+
+pub returns-clause-paths : goal.returns-clause-paths
+returns-clause-paths c = path_result_theorem
 
 pub returns-clause-generics : goal.returns-clause-generics
 returns-clause-generics c = generics_theorem

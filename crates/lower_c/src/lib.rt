@@ -1,0 +1,30 @@
+//! Lowering for C and for what calls C: `include/laxirbon.h` and `docs/EMBEDDING.md`.
+#![tactic(auto)]
+
+ghost use Rattle.lower_c.specs.Answers.{Answers, mode_of};
+
+mod border;
+mod modes;
+
+use crate::border::hand_over_result;
+use crate::modes::{lower, mode_with};
+use std::alloc::Global;
+
+/// Lowers a document, and writes the listing to `out`. The answer is a status: 0, or as the program's 2 or 3, where what the program says
+/// on standard error is written in place of the listing, or 4 where `out` is too short for either, and stays as it was. `needed` is the
+/// length of what there is to write.
+///
+/// All that was read and lowered is dropped before it returns.
+#[unsafe(no_mangle)]
+pub extern "C" fn laxirbon_lower(
+    alloc: Global,
+    mode: u32,
+    document: &[u8],
+    out: &mut [u8],
+    needed: &mut usize,
+) -> u32
+    ensures { Answers (mode_of mode) document.now result needed.new out.old out.new }
+{
+    let came = lower(alloc, mode_with(mode), document);
+    hand_over_result(alloc, came, out, needed)
+}
