@@ -113,6 +113,7 @@ pub fn lowered_and_kept<E: LowerEnv>(
 
 /// What was kept of the function, if it still holds, and else its body, lowered anew. The tree has to be the one that was lowered. If all
 /// that is listed for the body was kept, all is so of it by this environment that lowering it promises.
+#[tactic(auto, using(crate::proofs::Keeps::valid))]
 pub fn lowered_again<E: LowerEnv>(
     alloc: Global,
     env: &E,
