@@ -252,6 +252,15 @@ parts (tree.repeat_expr at e c) w = in_turn (part e) w ++ of_constant c w
 parts (tree.const_expr at c) w = of_constant c w
 parts e w = in_turn (operands e) w
 
+-- The parameters of a function, all at once. As in rust-analyzer, a constant sees them, which Rust refuses.
+
+abbrev pub self_names : SelfFormal → InScope
+self_names (tree.self_formal at u _) = label_rib u.name u.hygiene self_name ∷ []
+self_names s = []
+
+abbrev pub outside : SelfFormal → Tops → Where
+outside s ps = let ns = self_names s ++ with_tops ps [] in record { names = ns; items = ns }
+
 abbrev pub IsAmong : Standing → List Standing → Type 0
 IsAmong s [] = ⊥
 IsAmong s (t ∷ ts) = (s ≡ t) ⊎ IsAmong s ts

@@ -12,6 +12,7 @@ use Rattle.hir_store.specs.declared.ids.ExprId.{ExprId}
 use Rattle.hir_store.specs.declared.ids.MacroDefId.{MacroDefId}
 use Rattle.hir_store.specs.declared.ids.PatId.{PatId}
 use Rattle.hir_store.specs.declared.ids.TypeRefId.{TypeRefId}
+use Rattle.hir_lower_scope.specs.ScopeRibs.{macro_rib}
 use Rattle.hir_env.specs.ResolvedTree as tree
 use Rattle.hir_env.specs.ResolvedTree.{Expr, OptionBlock, OptionExpr, OptionPat, Stmts}
 use Rattle.hir_walks.specs.Exprs.{statement_pats}
@@ -74,7 +75,7 @@ module _ (store : Store) (source_map : SourceMap) (self : Option BindingId) (o :
   tail_none (tree.more_stmts (tree.disabled_stmt at by s) ss) e rs is t ms off h = tail_none ss e rs is t ms off h
   tail_none (tree.more_stmts (tree.call_stmt c) ss) e rs is t ms off h = tail_none ss e rs is t ms off h
   tail_none (tree.more_stmts (tree.macro_stmt k None) ss) e rs is t ms off h = tail_none ss e rs h.0 t ms off h.2
-  tail_none (tree.more_stmts (tree.macro_stmt k (Some d)) ss) e rs is t ms off h = tail_none ss e _ h.0 t ms off h.2
+  tail_none (tree.more_stmts (tree.macro_stmt k (Some d)) ss) e rs is t ms off h = tail_none ss e (macro_rib d ∷ rs) h.0 t ms off h.2
   tail_none (tree.more_stmts (tree.expr_stmt f semi) ss) e rs is t ms off h = tail_none ss e rs h.1 t h.3.right off h.3.second
   tail_none (tree.more_stmts (tree.let_stmt p y i b) ss) e rs is t ms off h = tail_none ss e rs h.4 t h.6.right off h.6.second
 
@@ -160,7 +161,7 @@ module _ (store : Store) (source_map : SourceMap) (self : Option BindingId) (o :
         let lined = kept_lined store source_map self p.0 rs f (Some v) ms (below.0, tt) h in
         all-append store source_map self o root start (in_turn (enabled_part f) w) (contents ss e (behind_part f w))
         (line_see store source_map self o root start p (v ∷ []) (enabled_part f) x w lined
-        (λ c y less among. ins c y less (among_left c y ((v, x) ∷ []) _ among)) same)
+        (λ c y less among. ins c y less (among_left c y ((v, x) ∷ []) (placed_block store (after_part store p) others t (past store (after_part store p) v x)) among)) same)
         (rec (past store (after_part store p) v x) below.1 there (λ c y less among. ins c y less (inr among)) (record {
           names = line_same store source_map self o p (v ∷ []) (enabled_part f) (lets_of_part f) x.names w.names lined (lets_in_enabled f)
               same.names;
@@ -189,13 +190,15 @@ module _ (store : Store) (source_map : SourceMap) (self : Option BindingId) (o :
         let binds = lets_in_both (part i) (block_part b) (lets_of_part i) [] (lets_in_part i) (lets_in_block b) ∙ append-nil (lets_of_part i) in
         let outer = line_same store source_map self o p own (part i ++ block_part b) (lets_of_part i) x.names w.names lined binds same.names in
         let after_both = subst (λ l. Same store source_map self l (with_each (lets_of_part i) w.names)) (sym (let_after g u z x.names)) outer in
-        all-append store source_map self o root start (in_turn (part i ++ block_part b) w) _
+        all-append store source_map self o root start (in_turn (part i ++ block_part b) w)
+        (contents ss e (naming w (with_top top (behind_part i w).names)))
         (line_see store source_map self o root start p own (part i ++ block_part b) x w lined
-        (λ c v less among. ins c v less (among_left c v (placed_statement store g (statement.Let q y u z) x) _
-        (subst (λ l. Among c v l) (sym (let_placed g q y u z x)) among))) same)
+        (λ c v less among. ins c v less (among_left c v (placed_statement store g (statement.Let q y u z) x)
+        (placed_block store g others t (past_statement store g (statement.Let q y u z) x)) (subst (λ l. Among c v l) (sym (let_placed g q y u z x)) among))) same)
         (rec (past_statement store g (statement.Let q y u z) x)
         (each_below_right p.0 own (flat_map statement_children others ++ option_to_list t) split) there.1
-        (λ c v less among. ins c v less (among_right c v (placed_statement store g (statement.Let q y u z) x) _ among))
+        (λ c v less among. ins c v less (among_right c v (placed_statement store g (statement.Let q y u z) x)
+        (placed_block store g others t (past_statement store g (statement.Let q y u z) x)) among))
         (record {
           names = same_top store source_map self o rs top q ms there.0 names (ribs_of store (after_option store g z (after_option store g u x.names)))
               (with_each (lets_of_part i) w.names) after_both;
@@ -224,7 +227,7 @@ module _ (store : Store) (source_map : SourceMap) (self : Option BindingId) (o :
         (subst (λ l. Below p l t) h.5 below) (subst (λ l. There l) h.5 there) (subst (λ l. Within p l t x) h.5 ins) same
         (λ y lower known within k. contents_see ss e p rs h.4 t h.6.right y _ h.6.second lower known within k)
     contents_see (tree.more_stmts (tree.macro_stmt k (Some d)) ss) e p rs is t ms x w h below there ins same =
-        contents_see ss e p _ h.0 t ms (past_macro_def d x) (behind_macro d w) h.2 (subst (λ l. Below p l t) h.1 below)
+        contents_see ss e p (macro_rib d ∷ rs) h.0 t ms (past_macro_def d x) (behind_macro d w) h.2 (subst (λ l. Below p l t) h.1 below)
         (subst (λ l. There l) h.1 there) (subst (λ l. Within p l t x) h.1 ins)
         (record {
           names = same_macro store source_map self d (ribs_of store x.names) w.names same.names;

@@ -18,6 +18,7 @@ use Rattle.hir_store.specs.declared.ids.ExprId.{ExprId}
 use Rattle.hir_store.specs.declared.ids.LabelId.{LabelId}
 use Rattle.hir_store.specs.declared.ids.LangItemId.{LangItemId}
 use Rattle.hir_store.specs.declared.ids.PatId.{PatId}
+use Rattle.hir_lower_scope.specs.ScopeRibs.{barrier_rib}
 use Rattle.hir_env.specs.Conditions.{holds_let}
 use Rattle.hir_env.specs.ResolvedTree as tree
 use Rattle.hir_env.specs.ResolvedTree.{Arms, Block, Constant, Expr, ForItems, Guard, OptionBlock, OptionExpr, OptionPat, Stmts}
@@ -33,7 +34,7 @@ use Rattle.spec_scoping.specs.Scoping.{of_arm, of_arms, of_constant, part, where
 use Rattle.spec_semantics.specs.Contents.{BlockContents}
 use Rattle.spec_semantics.specs.Left.{gives_value, is_left}
 use Rattle.thm_body_result.specs.Corresponds.{Corresponds, CorrespondsArms, CorrespondsBlockPart, CorrespondsConstant, CorrespondsContents}
-use Rattle.thm_body_result.specs.Corresponds.{CorrespondsGuard, CorrespondsKept, CorrespondsPart, CorrespondsPatPart, Open, WithNames}
+use Rattle.thm_body_result.specs.Corresponds.{CorrespondsGuard, CorrespondsKept, CorrespondsPart, CorrespondsPatPart, Open, WithNames, opened}
 use Rattle.thm_body_result.specs.CorrespondsMade.{CorrespondsCondition, CorrespondsGivesArm, CorrespondsNext, CorrespondsToIteration}
 use Rattle.thm_body_result.specs.CorrespondsMade.{CorrespondsTry, CorrespondsWhile, CorrespondsWrapped}
 use Rattle.thm_body_result.specs.Forms.{generated_name}
@@ -116,7 +117,7 @@ module _ (store : Store) (source_map : SourceMap) (self : Option BindingId) (o :
       contents_at ss e rs i is_unsafe None number h.0 h.1 h.2 h.5.left w h.4.stored h.3 h.5.first a
   block_at rs at is_unsafe (Some l) k number ss e i ms w h a =
       let b = h.2.second in
-      contents_at ss e _ i is_unsafe (Some h.0) number b.0 b.1 b.2 b.5.left w b.4.stored b.3 b.5.first a
+      contents_at ss e (opened l h.0 rs) i is_unsafe (Some h.0) number b.0 b.1 b.2 b.5.left w b.4.stored b.3 b.5.first a
 
   -- a form with one part in a scope of its own
   wrap_see : (i b : ExprId) (f : StoredExpr) (es : List Expr) (y : Spot) (w v : Where) (a : StandsAt i w) → slice_get store.exprs i.0 ≡ Some f
@@ -139,7 +140,7 @@ module _ (store : Store) (source_map : SourceMap) (self : Option BindingId) (o :
   loop_see rs at None k b i ms w h a = loop_at rs b i h.0 None _ h.2.left w h.1.stored h.2.first a
   loop_see rs at (Some l) k b i ms w h a =
       let x = h.2.second in
-      loop_at _ b i x.0 (Some h.0) _ x.2.left w x.1.stored x.2.first a
+      loop_at (opened l h.0 rs) b i x.0 (Some h.0) _ x.2.left w x.1.stored x.2.first a
 
   -- `while`
 
@@ -204,7 +205,7 @@ module _ (store : Store) (source_map : SourceMap) (self : Option BindingId) (o :
       (i : ExprId) (ms : List Mapping) (w : Where) → Corresponds store source_map rs (tree.while_expr at label k c b) i ms → StandsAt i w
       → All (in_turn (part c) w ++ in_turn (block_part b) (behind_condition c w))
   while_see rs at None k c b i ms w h a = while_at rs at None c b i ms w h a
-  while_see rs at (Some l) k c b i ms w h a = while_at _ at (Some h.0) c b i h.2.right w h.2.second a
+  while_see rs at (Some l) k c b i ms w h a = while_at (opened l h.0 rs) at (Some h.0) c b i h.2.right w h.2.second a
 
   -- `match`
 
@@ -264,7 +265,8 @@ module _ (store : Store) (source_map : SourceMap) (self : Option BindingId) (o :
       let lined = part_lined store source_map self i.0 rs e h.0 h.3.left lower.0 h.3.first in
       both (in_turn (part e) w) (of_arms arms (behind_part e w))
       (line_see store source_map self o root start i (h.0 ∷ []) (part e) x w lined
-      (λ c z less among. step store source_map self o root start i f w a found c z less (among_left c z ((h.0, x) ∷ []) _ among)) a.same)
+      (λ c z less among. step store source_map self o root start i f w a found c z less (among_left c z ((h.0, x) ∷ [])
+      (flat_map (placed_arm store (after_part store i) (past store (after_part store i) h.0 x)) h.1) among)) a.same)
       (arms_see arms rs i h.1 h.3.second.left (past store (after_part store i) h.0 x) (behind_part e w) h.3.second.first lower.1
       (o.patterns_there i f found) (λ c z less among. step store source_map self o root start i f w a found c z less (inr among))
       (record {
@@ -290,8 +292,9 @@ module _ (store : Store) (source_map : SourceMap) (self : Option BindingId) (o :
       both (in_turn (part e) w) (of_constant (tree.constant l) w)
       (line_see store source_map self o root start i (h.0 ∷ []) (part e) x w
       (part_lined store source_map self i.0 rs e h.0 h.3.left lower.0 h.3.first)
-      (λ c z less among. step store source_map self o root start i f w a found c z less (among_left c z ((h.0, x) ∷ []) _ among)) a.same)
-      (constant_see _ (tree.constant l) i h.1.expr h.3.second.first.0 x w h.3.second.first.2
+      (λ c z less among. step store source_map self o root start i f w a found c z less (among_left c z ((h.0, x) ∷ [])
+      ((h.1.expr, in_constant x) ∷ []) among)) a.same)
+      (constant_see (barrier_rib ∷ rs) (tree.constant l) i h.1.expr h.3.second.first.0 x w h.3.second.first.2
       (step store source_map self o root start i f w a found h.1.expr (in_constant x) lower.1.0 (inr (inl refl))) a.same)
 
   pub const_see : (rs : Open) (at : Pointer) (c : Constant) (i : ExprId) (ms : List Mapping) (w : Where)
@@ -300,7 +303,7 @@ module _ (store : Store) (source_map : SourceMap) (self : Option BindingId) (o :
       let n = h.2.0 in
       let f : StoredExpr = hir.Const n in
       let found = h.2.1.stored in
-      constant_see _ (tree.constant e) i n.expr h.2.2.first.0 a.spot w h.2.2.first.2
+      constant_see (barrier_rib ∷ rs) (tree.constant e) i n.expr h.2.2.first.0 a.spot w h.2.2.first.2
       (step store source_map self o root start i f w a found n.expr (in_constant a.spot) (o.parts i f found).0 (inl refl)) a.same
 
   -- closures and coroutine blocks
@@ -316,9 +319,9 @@ module _ (store : Store) (source_map : SourceMap) (self : Option BindingId) (o :
       let y : Spot = in_scope x (binding_scope (flat_map (bindings_in store) l.0) ∷ x.names) in
       let last = c.4.second.second in
       wrap_see i c.2 _ (part e) y w (naming w (with_tops (params_tops xs) w.names)) a found refl
-      (part_lined store source_map self i.0 _ e c.2 last.left (o.parts i _ found).0 last.first)
+      (part_lined store source_map self i.0 (barrier_rib ∷ rs) e c.2 last.left (o.parts i _ found).0 last.first)
       (record {
-        names = same_params store source_map self o _ xs l c.4.left (o.patterns_there i _ found) c.4.first (ribs_of store x.names) w.names
+        names = same_params store source_map self o (barrier_rib ∷ rs) xs l c.4.left (o.patterns_there i _ found) c.4.first (ribs_of store x.names) w.names
             a.same.names;
         items = a.same.items;
       })
@@ -333,7 +336,7 @@ module _ (store : Store) (source_map : SourceMap) (self : Option BindingId) (o :
       let x = a.spot in
       let block : StandsAt body w = go_in i body _ w w a found (o.parts i _ found).0 (in_scope x (binding_scope [] ∷ x.names)) (inl refl)
       (record { names = a.same.names; items = a.same.items }) in
-      contents_at ss e _ body false None number c.0 c.1 c.2 c.7.left w c.6.stored c.3 c.7.first block
+      contents_at ss e (barrier_rib ∷ rs) body false None number c.0 c.1 c.2 c.7.left w c.6.stored c.3 c.7.first block
 
   -- `?`
 

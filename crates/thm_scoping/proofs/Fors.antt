@@ -1,5 +1,5 @@
 -- The parts of a `for` and of a `try` see what the written ones do.
-use Rattle.std.proofs.Common.{arith, ◌≡◌, ◌∙◌, refl, sym, ap, subst, inl, inr, ◌⊎◌, ◌<◌, ℕ, Bool, List, [], ◌∷◌, ◌++◌, append-nil, length}
+use Rattle.std.proofs.Common.{arith, ◌≡◌, ◌∙◌, refl, sym, ap, subst, inl, inr, ◌⊎◌, ◌<◌, ℕ, Bool, true, false, List, [], ◌∷◌, ◌++◌, append-nil, length}
 use Rattle.std.proofs.Common.{Option, Some, None, option_to_list, slice_get}
 use Rattle.std.specs.List.{flat_map}
 use Rattle.hir_store.specs.Children.{statement_children}
@@ -15,6 +15,7 @@ use Rattle.hir_store.specs.declared.ids.ExprId.{ExprId}
 use Rattle.hir_store.specs.declared.ids.LabelId.{LabelId}
 use Rattle.hir_store.specs.declared.ids.LangItemId.{LangItemId}
 use Rattle.hir_store.specs.declared.ids.PatId.{PatId}
+use Rattle.hir_lower_scope.specs.ScopeRibs.{try_rib}
 use Rattle.hir_env.specs.ResolvedTree as tree
 use Rattle.hir_env.specs.ResolvedTree.{ForItems, OptionExpr, OptionPat, Stmts}
 use Rattle.hir_walks.specs.Pats.{bindings_in}
@@ -25,7 +26,7 @@ use Rattle.spec_scoping.specs.Bound.{InScope, with_each, with_top}
 use Rattle.spec_scoping.specs.Scoping.{Standing, Where, behind_part, contents, in_turn, lets_of_part, naming, part}
 use Rattle.spec_semantics.specs.Contents.{BlockContents}
 use Rattle.spec_semantics.specs.Left.{gives_value, is_left}
-use Rattle.thm_body_result.specs.Corresponds.{Corresponds, CorrespondsContents, CorrespondsKept, CorrespondsPart, CorrespondsPatPart, InLabel, Open}
+use Rattle.thm_body_result.specs.Corresponds.{Corresponds, CorrespondsContents, CorrespondsKept, CorrespondsPart, CorrespondsPatPart, InLabel, Open, opened}
 use Rattle.thm_body_result.specs.Corresponds.{WithNames}
 use Rattle.thm_body_result.specs.CorrespondsMade.{CorrespondsNext, CorrespondsToIteration, CorrespondsToLoop, CorrespondsTry, CorrespondsWrapped}
 use Rattle.thm_body_result.specs.Leads.{Mapping}
@@ -61,7 +62,7 @@ module _ (store : Store) (source_map : SourceMap) (self : Option BindingId) (o :
       (λ g ss. refl) (name, tt) in
       let call = h.2.second in
       binds_nothing store source_map self o i _ (call.0 ∷ h.1 ∷ []) call.1.second.0.stored (λ g ss. refl)
-      (item_after store source_map self (Some item) call.0 call.1.first.0.stored, ref, tt)
+      (item_after store source_map self (Some item) call.0 call.1.first.0.stored, (ref, tt))
 
   -- the turn of a `for`
   turn_see : (rs inner : Open) (at : Pointer) (items : ForItems) (n : ℕ) (top : OptionPat) (p : PatId) (b : OptionExpr) (it : ExprId)
@@ -164,7 +165,7 @@ module _ (store : Store) (source_map : SourceMap) (self : Option BindingId) (o :
           → All (in_turn (part b) (naming w (with_top top (behind_part head w).names)))
       by None w' l at_loop names = turns_see rs rs at None items h.3 top h.2 b h.5 _ _ (behind_part head w) names l at_loop
       by (Some k) w' l at_loop names =
-          turns_see rs _ at (Some l.0) items h.3 top h.2 b h.5 l.2.right _ (behind_part head w) names l.2.second at_loop
+          turns_see rs (opened k l.0 rs) at (Some l.0) items h.3 top h.2 b h.5 l.2.right _ (behind_part head w) names l.2.second at_loop
 
   -- `try`
 
@@ -184,15 +185,16 @@ module _ (store : Store) (source_map : SourceMap) (self : Option BindingId) (o :
 
       by : (t : Option ExprId) → CorrespondsWrapped store source_map at item t v ms
           → Inside store source_map self o root start p (placed_block store g r.0 t x)
-      by None h = λ c y lower among. whole c y lower (among_left c y (placed_block store g r.0 None x) _ among)
+      by None h = λ c y lower among. whole c y lower (among_left c y (placed_block store g r.0 None x)
+          ((v, block_end store source_map self o g r.0 x) ∷ []) among)
       by (Some e) h = λ c y lower among. split c y lower
-          (among_both c y (placed_block store g r.0 None x) _ (subst (λ l. Among c y l) (block_split store source_map self o g r.0 (Some e) x) among))
+          (among_both c y (placed_block store g r.0 None x) ((e, block_end store source_map self o g r.0 x) ∷ []) (subst (λ l. Among c y l) (block_split store source_map self o g r.0 (Some e) x) among))
         where
           end : Spot
           end = block_end store source_map self o g r.0 x
 
           sees : Sees store root start v end
-          sees = whole v end less (among_right v end (placed_block store g r.0 None x) _ (inl refl))
+          sees = whole v end less (among_right v end (placed_block store g r.0 None x) ((v, end) ∷ []) (inl refl))
 
           found : slice_get store.exprs v.0 ≡ Some (hir.Call h.0 (e ∷ []))
           found = h.2.second.second.0.stored ∙ ap (λ u. Some (hir.Call h.0 (u ∷ []))) h.2.second.first.0
@@ -209,7 +211,7 @@ module _ (store : Store) (source_map : SourceMap) (self : Option BindingId) (o :
 
           split : (c : ExprId) (y : Spot) → c.0 < p.0 → Among c y (placed_block store g r.0 None x) ⊎ Among c y ((e, end) ∷ [])
               → Sees store root start c y
-          split c y lower (inl k) = whole c y lower (among_left c y (placed_block store g r.0 None x) _ k)
+          split c y lower (inl k) = whole c y lower (among_left c y (placed_block store g r.0 None x) ((v, end) ∷ []) k)
           split c y lower (inr (inl k)) = subst (λ (s : ExprId × Spot). Sees store root start s.0 s.1) (sym k) stands
           split c y lower (inr (inr k)) = absurd k
 
@@ -250,10 +252,10 @@ module _ (store : Store) (source_map : SourceMap) (self : Option BindingId) (o :
   pub try_see : (rs : Open) (at : Pointer) (item : Option LangItemId) (t : tree.OptionType) (number : Option BlockId) (ss : Stmts) (e : OptionExpr)
       (i : ExprId) (ms : List Mapping) (w : Where) → Corresponds store source_map rs (tree.try_expr at item t number ss e) i ms → StandsAt i w
       → All (contents ss e w)
-  try_see rs at item tree.no_type number ss e i ms w h a = try_at _ at item number ss e i ms w h a
+  try_see rs at item tree.no_type number ss e i ms w h a = try_at (λ label. try_rib label false ∷ rs) at item number ss e i ms w h a
   try_see rs at item (tree.some_type t) number ss e i ms w h a =
       let found = h.5.second.second.second.second.0.stored in
       let block : StandsAt h.0 w = go_in store source_map self o root start i h.0 _ w w a found (o.parts i _ found).0
       (record { names = block_scope None None ∷ a.spot.names; items = a.spot.items }) (inl refl)
       (record { names = a.same.names; items = a.same.items }) in
-      try_at _ at item number ss e h.0 h.5.left w h.5.first block
+      try_at (λ label. try_rib label true ∷ rs) at item number ss e h.0 h.5.left w h.5.first block

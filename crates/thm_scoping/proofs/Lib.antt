@@ -12,3 +12,5 @@ pub mod Forms
 pub mod Fors
 pub mod Lets
 pub mod Agreement
+pub mod Hits
+pub mod Preludes

@@ -171,7 +171,7 @@ module _ (store : Store) (source_map : SourceMap) (self : Option BindingId) wher
   fields_lined n rs (tree.more_fields (tree.named_field at name e) fs) is ms below h =
       let lower = subst (λ l. EachBelow n (map field_child l)) h.2 below in
       subst (λ l. Lined n (map field_child l) (part e ++ field_values fs)) (sym h.2)
-      (lined-append (part_lined n rs e h.0 h.3.left.left lower.0 h.3.first.first)
+      (lined-append (part_lined n rs e h.0 h.3.first.left lower.0 h.3.first.first)
       (fields_lined n rs fs h.1 h.3.right lower.1 h.3.second))
   fields_lined n rs (tree.more_fields (tree.disabled_field at by f) fs) is ms below h = fields_lined n rs fs is ms below h
   fields_lined n rs (tree.more_fields (tree.nameless_field at e) fs) is ms below h = fields_lined n rs fs is ms below h

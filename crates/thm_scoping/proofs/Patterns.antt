@@ -81,7 +81,7 @@ abbrev pub back_of : PatShape → PatsData
 back_of (datum.slice_pattern before middle behind) = behind
 back_of shape = datum.no_patterns
 
-abbrev is_binding : PatShape → Bool
+abbrev pub is_binding : PatShape → Bool
 is_binding (datum.bind_pattern n h mode sub) = true
 is_binding shape = false
 
@@ -154,14 +154,14 @@ module _ (store : Store) (source_map : SourceMap) (descends : Descends store) (k
 
   -- a pattern that reads as a bare shape binds nothing
 
-  name_is_not_bare : (n : Name) (h : HygieneId) (m : BindingAnnotation) (sub : OptionPatData) → is_bare (name_layer n h m sub) ≡ true → ⊥
-  name_is_not_bare (name.Text t) h m sub k = true≢false (sym k)
-  name_is_not_bare name.Missing h m sub k = true≢false (sym k)
-  name_is_not_bare (name.Generated n) h m sub k = true≢false (sym k)
+  name_is_not_bare : (r : Readers) (n : Name) (h : HygieneId) (m : BindingAnnotation) (sub : OptionPatData) → is_bare (name_layer store source_map r n h m sub) ≡ true → ⊥
+  name_is_not_bare r (name.Text t) h m sub k = true≢false (sym k)
+  name_is_not_bare r name.Missing h m sub k = true≢false (sym k)
+  name_is_not_bare r (name.Generated n) h m sub k = true≢false (sym k)
 
-  pub bind_is_not_bare : (b : Option Binding) (sub : OptionPatData) → is_bare (bind_layer b sub) ≡ true → ⊥
-  bind_is_not_bare None sub k = true≢false (sym k)
-  bind_is_not_bare (Some b) sub k = name_is_not_bare b.name b.hygiene b.mode sub k
+  pub bind_is_not_bare : (r : Readers) (b : Option Binding) (sub : OptionPatData) → is_bare (bind_layer store source_map r b sub) ≡ true → ⊥
+  bind_is_not_bare r None sub k = true≢false (sym k)
+  bind_is_not_bare r (Some b) sub k = name_is_not_bare r b.name b.hygiene b.mode sub k
 
   Nothing : Option HirPat → Type 0
   Nothing o = (of_found pat_binding o ≡ []) × (of_found pat_children o ≡ [])
@@ -177,7 +177,7 @@ module _ (store : Store) (source_map : SourceMap) (descends : Descends store) (k
   bare_pat r (Some (pat.Lit e)) k = (refl, refl)
   bare_pat r (Some (pat.Range op low high)) k = (refl, refl)
   bare_pat r (Some (pat.Expr e)) k = (refl, refl)
-  bare_pat r (Some (pat.Bind i sub)) k = absurd (bind_is_not_bare (binding_found store source_map i) (subpattern_layer r sub) k)
+  bare_pat r (Some (pat.Bind i sub)) k = absurd (bind_is_not_bare r (binding_found store source_map i) (subpattern_layer store source_map r sub) k)
   bare_pat r (Some (pat.TupleStruct p ellipsis ps)) k = absurd (true≢false (sym k))
   bare_pat r (Some (pat.Tuple ellipsis ps)) k = absurd (true≢false (sym k))
   bare_pat r (Some (pat.Record p fs ellipsis)) k = absurd (true≢false (sym k))
@@ -235,14 +235,14 @@ module _ (store : Store) (source_map : SourceMap) (descends : Descends store) (k
 
   -- In front of the parts behind a leading comma stands a missing one.
   front_pairs : (comma : Bool) (is others : List PatId) (D : PatsData) (js : List ℕ) (d : ℕ) → BehindFront comma is others → AllBelow d is
-      → patterns_layer (reader d) is ≡ behind_comma comma D
-      → (AllBelow d others → patterns_layer (reader d) others ≡ D → Pairs ks (binds_each d others) js)
+      → patterns_layer store source_map (reader d) is ≡ behind_comma comma D
+      → (AllBelow d others → patterns_layer store source_map (reader d) others ≡ D → Pairs ks (binds_each d others) js)
       → Pairs ks (binds_each d is) js
   front_pairs false is others D js d h below e rec = subst (λ l. Pairs ks (binds_each d l) js) (sym h)
-      (rec (subst (λ l. AllBelow d l) h below) (ap (λ l. patterns_layer (reader d) l) (sym h) ∙ e))
+      (rec (subst (λ l. AllBelow d l) h below) (ap (λ l. patterns_layer store source_map (reader d) l) (sym h) ∙ e))
   front_pairs true is others D js d h below e rec =
       let lower = subst (λ l. AllBelow d l) h.1 below in
-      let reads = ap (λ l. patterns_layer (reader d) l) (sym h.1) ∙ e in
+      let reads = ap (λ l. patterns_layer store source_map (reader d) l) (sym h.1) ∙ e in
       cons_pairs d is h.0 others [] js h.1 (bare_pairs d h.0 absent_pattern lower.0 (ap first_of reads) refl)
       (rec lower.1 (ap others_of reads))
 
@@ -257,21 +257,21 @@ module _ (store : Store) (source_map : SourceMap) (descends : Descends store) (k
   path_is_bare (Some p) = refl
 
   -- what stands behind `@`
-  name_sub : (n : Name) (h : HygieneId) (m : BindingAnnotation) (S T : OptionPatData) (u : Use) → name_layer n h m S ≡ bind_as u T → S ≡ T
-  name_sub (name.Text t) h m S T u e = ap sub_of e
-  name_sub name.Missing h m S T u e = ap sub_of e
-  name_sub (name.Generated n) h m S T u e = absurd (true≢false (sym (ap is_binding e)))
+  name_sub : (r : Readers) (n : Name) (h : HygieneId) (m : BindingAnnotation) (S T : OptionPatData) (u : Use) → name_layer store source_map r n h m S ≡ bind_as u T → S ≡ T
+  name_sub r (name.Text t) h m S T u e = ap sub_of e
+  name_sub r name.Missing h m S T u e = ap sub_of e
+  name_sub r (name.Generated n) h m S T u e = absurd (true≢false (sym (ap is_binding e)))
 
-  bind_sub : (b : Option Binding) (S T : OptionPatData) (u : Use) → bind_layer b S ≡ bind_as u T → S ≡ T
-  bind_sub None S T u e = absurd (true≢false (sym (ap is_binding e)))
-  bind_sub (Some b) S T u e = name_sub b.name b.hygiene b.mode S T u e
+  bind_sub : (r : Readers) (b : Option Binding) (S T : OptionPatData) (u : Use) → bind_layer store source_map r b S ≡ bind_as u T → S ≡ T
+  bind_sub r None S T u e = absurd (true≢false (sym (ap is_binding e)))
+  bind_sub r (Some b) S T u e = name_sub r b.name b.hygiene b.mode S T u e
 
   tuple_pairs : (comma : Bool) (S : List PatId → Mappings) (i : PatId) (ms : List Mapping) (d : ℕ) → i.0 < d
       → CorrespondsTuple store source_map (λ dots is. pat.Tuple dots is) comma S i ms
       → (from : Option Pointer) (ellipsis : Option ℕ) (D : PatsData) (js : List ℕ)
       → (reader d).pat i ≡ pat_at from (datum.tuple_pattern ellipsis (behind_comma comma D))
       → ((c : ℕ) (others : List PatId) (ns : List Mapping) → AllBelow c others → S others ns
-      → patterns_layer (reader c) others ≡ D → Pairs ks (binds_each c others) js)
+      → patterns_layer store source_map (reader c) others ≡ D → Pairs ks (binds_each c others) js)
       → Pairs ks (binds d i) js
   tuple_pairs comma S i ms d less h from ellipsis D js e rec = inner d i (pat.Tuple h.0 h.1) _ js less h.3 e
       (λ c below shape. front_pairs comma h.1 h.2 D js c h.4 below (ap listed shape) (λ lower reads. rec c h.2 ms lower h.5 reads))
@@ -282,7 +282,7 @@ module _ (store : Store) (source_map : SourceMap) (descends : Descends store) (k
       → (from : Option Pointer) (ellipsis : Option ℕ) (D : PatsData) (js : List ℕ)
       → (reader d).pat i ≡ if_path o (λ p. pat_at from (datum.tuple_struct_pattern p ellipsis (behind_comma comma D))) absent_pattern
       → ((c : ℕ) (others : List PatId) (ns : List Mapping) → AllBelow c others → S others ns
-      → patterns_layer (reader c) others ≡ D → Pairs ks (binds_each c others) js)
+      → patterns_layer store source_map (reader c) others ≡ D → Pairs ks (binds_each c others) js)
       → Pairs ks (binds d i) (if_path o (λ _. js) [])
   struct_pairs comma S None i ms d less h from ellipsis D js e rec = bare_pairs d i absent_pattern less e refl
   struct_pairs comma S (Some p) i ms d less h from ellipsis D js e rec =
@@ -296,7 +296,7 @@ module _ (store : Store) (source_map : SourceMap) (descends : Descends store) (k
       → (from : Option Pointer) (D : PatFieldsData) (js : List ℕ)
       → (reader d).pat i ≡ if_path o (λ p. pat_at from (datum.record_pattern p D dots)) absent_pattern
       → ((c : ℕ) (is : List RecordFieldPat) (ns : List Mapping) → AllBelow c (map field_pat is) → F is ns
-      → pattern_fields_layer (reader c) is ≡ D → Pairs ks (binds_each c (map field_pat is)) js)
+      → pattern_fields_layer store source_map (reader c) is ≡ D → Pairs ks (binds_each c (map field_pat is)) js)
       → Pairs ks (binds d i) (if_path o (λ _. js) [])
   record_pairs F None i ms dots d less h from D js e rec = bare_pairs d i absent_pattern less e refl
   record_pairs F (Some p) i ms dots d less h from D js e rec = inner d i (pat.Record h.0 h.1 dots) _ js less h.2 e
@@ -336,7 +336,7 @@ module _ (store : Store) (source_map : SourceMap) (descends : Descends store) (k
 
   alternatives_pairs : (is : List PatId) (D : PatsData) (at : Pointer) (i : PatId) (js : List ℕ) (d : ℕ) → i.0 < d
       → OrIs store source_map is i → AsMany is D → (reader d).pat i ≡ alternatives_data at D
-      → ((c : ℕ) → AllBelow c is → patterns_layer (reader c) is ≡ D → Pairs ks (binds_each c is) js)
+      → ((c : ℕ) → AllBelow c is → patterns_layer store source_map (reader c) is ≡ D → Pairs ks (binds_each c is) js)
       → Pairs ks (binds d i) js
   unfolding AsMany
   alternatives_pairs [] datum.no_patterns at i js d less found many e rec =
@@ -358,13 +358,13 @@ module _ (store : Store) (source_map : SourceMap) (descends : Descends store) (k
       (d : ℕ) → AllBelow d is
       → CorrespondsBefore dots (λ i. CorrespondsPat store source_map ks rs p us i)
       (λ others. CorrespondsElements store source_map ks rs ps (uses_after p us) others) is ms
-      → patterns_layer (reader d) is ≡ (if dots then tuple_parts_data ps us
+      → patterns_layer store source_map (reader d) is ≡ (if dots then tuple_parts_data ps us
       else datum.more_patterns (pattern_data p us) (tuple_parts_data ps (uses_after p us)))
       → ((i : PatId) (ns : List Mapping) → i.0 < d → CorrespondsPat store source_map ks rs p us i ns → (reader d).pat i ≡ pattern_data p us
       → Pairs ks (binds d i) (names_of p us))
       → ((others : List PatId) (ns : List Mapping) → AllBelow d others
       → CorrespondsElements store source_map ks rs ps (uses_after p us) others ns
-      → patterns_layer (reader d) others ≡ tuple_parts_data ps (uses_after p us)
+      → patterns_layer store source_map (reader d) others ≡ tuple_parts_data ps (uses_after p us)
       → Pairs ks (binds_each d others) (names_of_each ps (uses_after p us)))
       → Pairs ks (binds_each d is) (names_of p us ++ names_of_each ps (uses_after p us))
   element_pairs p ps us rs true dots is ms d below h e one rest =
@@ -373,7 +373,7 @@ module _ (store : Store) (source_map : SourceMap) (descends : Descends store) (k
       (rest is ms below h (e ∙ ap (λ l. tuple_parts_data ps l) (sym nothing.1)))
   element_pairs p ps us rs false dots is ms d below h e one rest =
       let lower = subst (λ l. AllBelow d l) h.2 below in
-      let reads = ap (λ l. patterns_layer (reader d) l) (sym h.2) ∙ e in
+      let reads = ap (λ l. patterns_layer store source_map (reader d) l) (sym h.2) ∙ e in
       cons_pairs d is h.0 h.1 (names_of p us) (names_of_each ps (uses_after p us)) h.2
       (one h.0 h.3.left lower.0 h.3.first (ap first_of reads)) (rest h.1 h.3.right lower.1 h.3.second (ap others_of reads))
 
@@ -386,18 +386,18 @@ module _ (store : Store) (source_map : SourceMap) (descends : Descends store) (k
         (λ c below shape. (
           h.3.second.0,
           subpat_pairs sub us rs h.1 h.3.left c below h.3.first
-              (bind_sub (binding_found store source_map h.0) _ _ (first_use (uses_after_part sub us) u) shape),
+              (bind_sub (reader c) (binding_found store source_map h.0) _ _ (first_use (uses_after_part sub us) u) shape),
         ))
     pat_pairs (tree.name_pat at u _) us rs i ms d less h e = bare_pairs d i _ less e refl
     pat_pairs (tree.path_pat at p) us rs i ms d less h e = bare_pairs d i _ less e (path_is_bare (path_of p))
     pat_pairs (tree.tuple_struct_pat at p comma ps) us rs i ms d less h e =
-        struct_pairs comma _ (path_of p) i h.right d less h.second (Some at) (ellipsis_of comma ps) (tuple_parts_data ps us) (names_of_each ps us)
+        struct_pairs comma (λ is. CorrespondsElements store source_map ks rs ps us is) (path_of p) i h.right d less h.second (Some at) (ellipsis_of comma ps) (tuple_parts_data ps us) (names_of_each ps us)
         e (λ c others ns below k reads. elements_pairs ps us rs others ns c below k reads)
     pat_pairs (tree.tuple_pat at comma ps) us rs i ms d less h e =
-        tuple_pairs comma _ i ms d less h (Some at) (ellipsis_of comma ps) (tuple_parts_data ps us) (names_of_each ps us) e
+        tuple_pairs comma (λ is. CorrespondsElements store source_map ks rs ps us is) i ms d less h (Some at) (ellipsis_of comma ps) (tuple_parts_data ps us) (names_of_each ps us) e
         (λ c others ns below k reads. elements_pairs ps us rs others ns c below k reads)
     pat_pairs (tree.record_pat at p fs dots) us rs i ms d less h e =
-        record_pairs _ (path_of p) i h.right dots d less h.second (Some at) (fields_data fs us) (names_of_fields fs us) e
+        record_pairs (λ is. CorrespondsPatFields store source_map ks rs fs us is) (path_of p) i h.right dots d less h.second (Some at) (fields_data fs us) (names_of_fields fs us) e
         (λ c is ns below k reads. fields_pairs fs us rs is ns c below k reads)
     pat_pairs (tree.or_pat at ps) us rs i ms d less h e =
         alternatives_pairs h.0 (patterns_data ps us) at i (names_of_each ps us) d less h.1 (as_many ps us rs h.0 ms h.2) e
@@ -432,28 +432,28 @@ module _ (store : Store) (source_map : SourceMap) (descends : Descends store) (k
 
     subpat_pairs : (p : OptionPat) (us : FirstUses) (rs : Open) (o : Option PatId) (ms : List Mapping) (d : ℕ)
         → AllBelow d (option_to_list o) → CorrespondsSubpat store source_map ks rs p us o ms
-        → subpattern_layer (reader d) o ≡ subpattern_data p us → Pairs ks (binds_each d (option_to_list o)) (names_of_part p us)
+        → subpattern_layer store source_map (reader d) o ≡ subpattern_data p us → Pairs ks (binds_each d (option_to_list o)) (names_of_part p us)
     subpat_pairs tree.no_pat us rs o ms d below h e = no_pairs d (option_to_list o) (ap option_to_list h.0)
     subpat_pairs (tree.some_pat p) us rs o ms d below h e =
         let lower = subst (λ x. AllBelow d (option_to_list x)) h.1 below in
         subst (λ x. Pairs ks (binds_each d (option_to_list x)) (names_of p us)) (sym h.1)
         (one_pairs d h.0 (names_of p us)
-        (pat_pairs p us rs h.0 ms d lower.0 h.2 (ap some_pat (ap (λ x. subpattern_layer (reader d) x) (sym h.1) ∙ e))))
+        (pat_pairs p us rs h.0 ms d lower.0 h.2 (ap some_pat (ap (λ x. subpattern_layer store source_map (reader d) x) (sym h.1) ∙ e))))
 
     each_pairs : (ps : Pats) (us : FirstUses) (rs : Open) (is : List PatId) (ms : List Mapping) (d : ℕ) → AllBelow d is
-        → CorrespondsPats store source_map ks rs ps us is ms → patterns_layer (reader d) is ≡ patterns_data ps us
+        → CorrespondsPats store source_map ks rs ps us is ms → patterns_layer store source_map (reader d) is ≡ patterns_data ps us
         → Pairs ks (binds_each d is) (names_of_each ps us)
     each_pairs tree.no_pats us rs is ms d below h e = no_pairs d is h.0
     each_pairs (tree.more_pats p ps) us rs is ms d below h e =
         let lower = subst (λ l. AllBelow d l) h.2 below in
-        let reads = ap (λ l. patterns_layer (reader d) l) (sym h.2) ∙ e in
+        let reads = ap (λ l. patterns_layer store source_map (reader d) l) (sym h.2) ∙ e in
         cons_pairs d is h.0 h.1 (names_of p us) (names_of_each ps (uses_after p us)) h.2
         (pat_pairs p us rs h.0 h.3.left d lower.0 h.3.first (ap first_of reads))
         (each_pairs ps (uses_after p us) rs h.1 h.3.right d lower.1 h.3.second (ap others_of reads))
     each_pairs (tree.tracked_pats called ps) us rs is ms d below h e = each_pairs ps us rs is ms d below h e
 
     elements_pairs : (ps : Pats) (us : FirstUses) (rs : Open) (is : List PatId) (ms : List Mapping) (d : ℕ) → AllBelow d is
-        → CorrespondsElements store source_map ks rs ps us is ms → patterns_layer (reader d) is ≡ tuple_parts_data ps us
+        → CorrespondsElements store source_map ks rs ps us is ms → patterns_layer store source_map (reader d) is ≡ tuple_parts_data ps us
         → Pairs ks (binds_each d is) (names_of_each ps us)
     elements_pairs tree.no_pats us rs is ms d below h e = no_pairs d is h.0
     elements_pairs (tree.more_pats p ps) us rs is ms d below h e =
@@ -464,16 +464,16 @@ module _ (store : Store) (source_map : SourceMap) (descends : Descends store) (k
 
     fields_pairs : (fs : PatFields) (us : FirstUses) (rs : Open) (is : List RecordFieldPat) (ms : List Mapping) (d : ℕ)
         → AllBelow d (map field_pat is) → CorrespondsPatFields store source_map ks rs fs us is ms
-        → pattern_fields_layer (reader d) is ≡ fields_data fs us → Pairs ks (binds_each d (map field_pat is)) (names_of_fields fs us)
+        → pattern_fields_layer store source_map (reader d) is ≡ fields_data fs us → Pairs ks (binds_each d (map field_pat is)) (names_of_fields fs us)
     fields_pairs tree.no_pat_fields us rs is ms d below h e = no_pairs d (map field_pat is) (ap (λ l. map field_pat l) h.0)
     fields_pairs (tree.more_pat_fields (tree.pat_field at None p) fs) us rs is ms d below h e =
         fields_pairs fs (uses_after p us) rs is h.1.right d below h.1.second e
     fields_pairs (tree.more_pat_fields (tree.pat_field at (Some n) p) fs) us rs is ms d below h e =
         let lower = subst (λ l. AllBelow d (map field_pat l)) h.2 below in
-        let reads = ap (λ l. pattern_fields_layer (reader d) l) (sym h.2) ∙ e in
+        let reads = ap (λ l. pattern_fields_layer store source_map (reader d) l) (sym h.2) ∙ e in
         cons_pairs d (map field_pat is) h.0 (map field_pat h.1) (names_of p us) (names_of_fields fs (uses_after p us))
         (ap (λ l. map field_pat l) h.2)
-        (pat_pairs p us rs h.0 h.3.left.left d lower.0 h.3.first.first (ap first_field reads))
+        (pat_pairs p us rs h.0 h.3.first.left d lower.0 h.3.first.first (ap first_field reads))
         (fields_pairs fs (uses_after p us) rs h.1 h.3.right d lower.1 h.3.second (ap other_fields reads))
     fields_pairs (tree.more_pat_fields (tree.disabled_pat_field at by f) fs) us rs is ms d below h e = fields_pairs fs us rs is ms d below h e
     fields_pairs (tree.more_pat_fields tree.partless_pat_field fs) us rs is ms d below h e = fields_pairs fs us rs is ms d below h e

@@ -9,6 +9,8 @@ use Rattle.hir_store.specs.Stored.{Store, SourceMap}
 use Rattle.hir_store.specs.declared.hir.Array.TheVariants as array
 use Rattle.hir_store.specs.declared.hir.Expr.{Expr as StoredExpr}
 use Rattle.hir_store.specs.declared.hir.Expr.TheVariants as hir
+use Rattle.hir_store.specs.declared.hir.RecordLitField.{RecordLitField}
+use Rattle.hir_store.specs.declared.hir.RecordSpread.{RecordSpread}
 use Rattle.hir_store.specs.declared.hir.RecordSpread.TheVariants as spread
 use Rattle.hir_store.specs.declared.diagnostics.AwaitLocation.{AwaitLocation}
 use Rattle.hir_store.specs.declared.ids.BindingId.{BindingId}
@@ -17,6 +19,7 @@ use Rattle.hir_store.specs.declared.ids.HygieneId.{HygieneId}
 use Rattle.hir_store.specs.declared.ids.LangItemId.{LangItemId}
 use Rattle.hir_store.specs.declared.name.Name.{Name}
 use Rattle.hir_store.specs.declared.path.Path.TheVariants.{LangItem}
+use Rattle.hir_lower_scope.specs.ScopeRibs.{jump_number}
 use Rattle.hir_env.specs.ResolvedTree as tree
 use Rattle.hir_env.specs.ResolvedTree.{Binary, Expr, Exprs, Fields, Leaf, Leaving, Listing, OptionExpr, OptionPath, RangeForm, Unary}
 use Rattle.hir_walks.specs.Exprs.{expr_constants}
@@ -28,7 +31,6 @@ use Rattle.spec_scopes.specs.Scopes.{Scopes}
 use Rattle.spec_scoping.specs.Scoping.{elements, ends, field_values, operands, part, rest_of}
 use Rattle.thm_body_result.specs.Corresponds.{Corresponds, CorrespondsEach, CorrespondsFields, CorrespondsList, CorrespondsOthers}
 use Rattle.thm_body_result.specs.Corresponds.{CorrespondsPart, CorrespondsPath, CorrespondsPresent, CorrespondsRange, CorrespondsRecord, Open}
-use Rattle.thm_body_result.specs.Corresponds.{StoredRecord}
 use Rattle.thm_body_result.specs.CorrespondsMade.{CorrespondsItemCall}
 use Rattle.thm_body_result.specs.Forms.{binary_form, lazy_form, leaf_form, leaving_form, range_fields, unary_form}
 use Rattle.thm_body_result.specs.Leads.{Mapping, Mappings, ◌&◌}
@@ -147,7 +149,7 @@ module _ (store : Store) (source_map : SourceMap) (self : Option BindingId) (o :
 
   pub break_plain : (at : Pointer) (jump : Option tree.Jump) (e : OptionExpr) (rs : Open) (i : ExprId) (ms : List Mapping)
       → Corresponds store source_map rs (tree.break_expr at jump e) i ms → PlainAs i (part e)
-  break_plain at jump e rs i ms h = present i h.0 _ rs e h.2.left
+  break_plain at jump e rs i ms h = present i h.0 (hir.Break (jump_number rs jump) h.0) rs e h.2.left
       (record { found = h.1.stored; after_it = λ g ss. refl; in_it = λ g x. refl; parts = refl }) refl h.2.first
 
   pub become_plain : (at : Pointer) (e : OptionExpr) (rs : Open) (i : ExprId) (ms : List Mapping)
@@ -214,7 +216,7 @@ module _ (store : Store) (source_map : SourceMap) (self : Option BindingId) (o :
       → PlainAs i (if_path q (λ _. field_values fs ++ rest_of s) [])
   record_plain at None fs s rs i ms h = missing_plain i h.0.stored
   record_plain at (Some q) fs s rs i ms h =
-      let r : StoredRecord = h.1 in
+      let r : List RecordLitField × RecordSpread = h.1 in
       let f : StoredExpr = hir.RecordLit h.0 r.0 r.1 in
       let formed : Formed i f = record { found = h.2.stored; after_it = λ g ss. refl; in_it = λ g x. refl; parts = refl } in
       let lower = below i f formed in

@@ -17,6 +17,7 @@ use Rattle.hir_store.specs.declared.pat.RecordFieldPat.{RecordFieldPat}
 use Rattle.hir_store.specs.declared.path.Path.{Path}
 use Rattle.hir_env.specs.ResolvedTree as tree
 use Rattle.hir_env.specs.ResolvedTree.{Expr, OptionExpr, Target, TargetFields, Targets}
+use Rattle.hir_env.specs.Targets.{source_of}
 use Rattle.hir_walks.proofs.WholeLemmas.{pats_in_whole, same_levels}
 use Rattle.hir_walks.specs.Exprs.{exprs_at, exprs_in_pat, pat_exprs, path_constants}
 use Rattle.hir_walks.specs.Pats.{AllBelow, field_pat, of_found, pat_children, pats_to, with_parts}
@@ -26,7 +27,7 @@ use Rattle.spec_data.specs.Patterns.{if_path}
 use Rattle.spec_data.specs.Reading.{Readers, binding_found, expr_found, literal_layer, pattern_fields_layer, pattern_layer, patterns_layer}
 use Rattle.spec_data.specs.Reading.{stored_pat, subpattern_layer}
 use Rattle.spec_data.specs.Rule.{PathRead, data_of}
-use Rattle.spec_data.specs.Targets.{dots_pattern, path_target_of, target_data, target_fields_data, targets_data}
+use Rattle.spec_data.specs.Targets.{dots_pattern, path_target_of, target_data, target_dots, target_fields_data, targets_data}
 use Rattle.spec_data.specs.Written.{path_of}
 use Rattle.spec_scoping.specs.Scoping.{part, places, places_of_each, places_of_fields}
 use Rattle.thm_body_result.specs.Corresponds.{Corresponds, CorrespondsTarget, CorrespondsTargetFields, CorrespondsTargets, CorrespondsTuple}
@@ -42,10 +43,10 @@ path_target_is_bare : (q : Option PathRead) (h : HygieneId) → is_bare (path_ta
 path_target_is_bare None h = refl
 path_target_is_bare (Some q) h = refl
 
-literal_is_not_bare : (r : Readers) (e : Option StoredExpr) → is_bare (literal_layer e) ≡ true → ⊥
-literal_is_not_bare r None k = true≢false (sym k)
-literal_is_not_bare r (Some (hir.Literal l)) k = true≢false (sym k)
-literal_is_not_bare r (Some e) k = true≢false (sym k)
+literal_is_not_bare : (store : Store) (source_map : SourceMap) (r : Readers) (e : Option StoredExpr) → is_bare (literal_layer store source_map r e) ≡ true → ⊥
+literal_is_not_bare store source_map r None k = true≢false (sym k)
+literal_is_not_bare store source_map r (Some (hir.Literal l)) k = true≢false (sym k)
+literal_is_not_bare store source_map r (Some e) k = true≢false (sym k)
 
 module _ (store : Store) (source_map : SourceMap) (self : Option BindingId) (o : Orderly store) where
   abbrev InLine : ℕ → List ExprId → List Expr → Type 0
@@ -88,7 +89,7 @@ module _ (store : Store) (source_map : SourceMap) (self : Option BindingId) (o :
   bare_form n d i (pat.Path p h) r found k = subst (λ l. InLine n l []) (sym (append-nil (path_constants p)))
       (constants n i (pat.Path p h) p found refl)
   bare_form n d i (pat.Bind b sub) r found k =
-      absurd (bind_is_not_bare store source_map o.patterns [] (binding_found store source_map b) (subpattern_layer r sub) k)
+      absurd (bind_is_not_bare store source_map o.patterns [] r (binding_found store source_map b) (subpattern_layer store source_map r sub) k)
   bare_form n d i (pat.TupleStruct p ellipsis ps) r found k = absurd (true≢false (sym k))
   bare_form n d i (pat.Tuple ellipsis ps) r found k = absurd (true≢false (sym k))
   bare_form n d i (pat.Record p fs ellipsis) r found k = absurd (true≢false (sym k))
@@ -97,7 +98,7 @@ module _ (store : Store) (source_map : SourceMap) (self : Option BindingId) (o :
   bare_form n d i (pat.Ref m p) r found k = absurd (true≢false (sym k))
   bare_form n d i (pat.Box p) r found k = absurd (true≢false (sym k))
   bare_form n d i (pat.Deref p) r found k = absurd (true≢false (sym k))
-  bare_form n d i (pat.Lit e) r found k = absurd (literal_is_not_bare r (expr_found store source_map e) k)
+  bare_form n d i (pat.Lit e) r found k = absurd (literal_is_not_bare store source_map r (expr_found store source_map e) k)
   bare_form n d i (pat.Range op low high) r found k = absurd (true≢false (sym k))
   bare_form n d i (pat.Expr e) r found k = absurd (true≢false (sym k))
 
@@ -144,7 +145,7 @@ module _ (store : Store) (source_map : SourceMap) (self : Option BindingId) (o :
       → (from : Option Pointer) (ellipsis : Option ℕ) (D : PatsData) (es : List Expr)
       → (read d).pat i ≡ pat_at from (datum.tuple_pattern ellipsis D) → EachBelow n (exprs_to d i)
       → ((c : ℕ) (is : List PatId) (ns : List Mapping) → AllBelow c is → EachBelow n (exprs_each c is) → S is ns
-      → patterns_layer (read c) is ≡ D → InLine n (exprs_each c is) es)
+      → patterns_layer store source_map (read c) is ≡ D → InLine n (exprs_each c is) es)
       → InLine n (exprs_to d i) es
   tuple_target S n d i ms less h from ellipsis D es e below rec = inner n d i (pat.Tuple h.0 h.1) _ es less h.3 e below
       (λ c lower shape under. rec c h.1 ms lower under (subst (λ l. S l ms) (sym h.4) h.5) (ap listed shape))
@@ -156,7 +157,7 @@ module _ (store : Store) (source_map : SourceMap) (self : Option BindingId) (o :
       → (read d).pat i ≡ if_path q (λ p. pat_at from (datum.tuple_struct_pattern p ellipsis D)) (pat_at at datum.missing_pattern)
       → EachBelow n (exprs_to d i)
       → ((c : ℕ) (is : List PatId) (ns : List Mapping) → AllBelow c is → EachBelow n (exprs_each c is) → S is ns
-      → patterns_layer (read c) is ≡ D → InLine n (exprs_each c is) es)
+      → patterns_layer store source_map (read c) is ≡ D → InLine n (exprs_each c is) es)
       → InLine n (exprs_to d i) (if_path q (λ _. es) [])
   struct_target S None n d i ms less h from at ellipsis D es e below rec = bare_target n d i (pat_at at datum.missing_pattern) less e refl
   struct_target S (Some q) n d i ms less h from at ellipsis D es e below rec =
@@ -175,7 +176,7 @@ module _ (store : Store) (source_map : SourceMap) (self : Option BindingId) (o :
       → (read d).pat i ≡ if_path q (λ p. pat_at from (datum.record_pattern p D dots)) (pat_at at datum.missing_pattern)
       → EachBelow n (exprs_to d i)
       → ((c : ℕ) (is : List RecordFieldPat) (ns : List Mapping) → AllBelow c (map field_pat is) → EachBelow n (exprs_each c (map field_pat is))
-      → F is ns → pattern_fields_layer (read c) is ≡ D → InLine n (exprs_each c (map field_pat is)) es)
+      → F is ns → pattern_fields_layer store source_map (read c) is ≡ D → InLine n (exprs_each c (map field_pat is)) es)
       → InLine n (exprs_to d i) (if_path q (λ _. es) [])
   record_target F None n d i ms dots less h from at D es e below rec = bare_target n d i (pat_at at datum.missing_pattern) less e refl
   record_target F (Some q) n d i ms dots less h from at D es e below rec =
@@ -186,7 +187,7 @@ module _ (store : Store) (source_map : SourceMap) (self : Option BindingId) (o :
 
   -- two dots among the elements of an array
   dots_in_line : (n d : ℕ) (dots : Option Pointer) (m : Option PatId) → AllBelow d (option_to_list m)
-      → subpattern_layer (read d) m ≡ dots_pattern dots → InLine n (exprs_each d (option_to_list m)) []
+      → subpattern_layer store source_map (read d) m ≡ dots_pattern dots → InLine n (exprs_each d (option_to_list m)) []
   dots_in_line n d dots None below e = ended
   dots_in_line n d None (Some m) below e = absurd (true≢false (sym (ap is_none e)))
     where
@@ -211,10 +212,11 @@ module _ (store : Store) (source_map : SourceMap) (self : Option BindingId) (o :
     target_in_line (tree.path_target at p hygiene) rs n d i ms less h e below =
         bare_target n d i _ less e (path_target_is_bare (path_of (tree.some_path p)) hygiene)
     target_in_line (tree.tuple_target at ts) rs n d i ms less h e below =
-        tuple_target _ n d i ms less h _ _ (targets_data ts) (places_of_each ts) e below
+        tuple_target (λ is. CorrespondsTargets store source_map rs ts is) n d i ms less h (Some (source_of at)) (target_dots ts) (targets_data ts) (places_of_each ts) e below
         (λ c is ns lower under k reads. targets_in_line ts rs n c is ns lower under k reads)
     target_in_line (tree.call_target at p ts) rs n d i ms less h e below =
-        struct_target _ (path_of p) n d i h.right less h.second _ _ _ (targets_data ts) (places_of_each ts) e below
+        struct_target (λ is. CorrespondsTargets store source_map rs ts is) (path_of p) n d i h.right less h.second (Some (source_of at)) at.call
+        (target_dots ts) (targets_data ts) (places_of_each ts) e below
         (λ c is ns lower under k reads. targets_in_line ts rs n c is ns lower under k reads)
     target_in_line (tree.array_target at before dots behind) rs n d i ms less h e below =
         inner n d i (pat.Slice h.0 h.1 h.2) _ (places_of_each before ++ places_of_each behind) less h.3 e below
@@ -235,16 +237,17 @@ module _ (store : Store) (source_map : SourceMap) (self : Option BindingId) (o :
         (targets_in_line behind rs n c h.2 h.4.right (below_right c (option_to_list h.1) h.2 others)
         (each_below_right n (exprs_each c (option_to_list h.1)) (exprs_each c h.2) later) h.4.second (ap back_of shape))))))
     target_in_line (tree.record_target at p fs dots spread) rs n d i ms less h e below =
-        record_target _ (path_of p) n d i h.right dots less h.second _ _ (target_fields_data fs) (places_of_fields fs) e below
+        record_target (λ is. CorrespondsTargetFields store source_map rs fs is) (path_of p) n d i h.right dots less h.second (Some (source_of at))
+        at.call (target_fields_data fs) (places_of_fields fs) e below
         (λ c is ns lower under k reads. fields_in_line fs rs n c is ns lower under k reads)
 
     targets_in_line : (ts : Targets) (rs : Open) (n d : ℕ) (is : List PatId) (ms : List Mapping) → AllBelow d is
-        → EachBelow n (exprs_each d is) → CorrespondsTargets store source_map rs ts is ms → patterns_layer (read d) is ≡ targets_data ts
+        → EachBelow n (exprs_each d is) → CorrespondsTargets store source_map rs ts is ms → patterns_layer store source_map (read d) is ≡ targets_data ts
         → InLine n (exprs_each d is) (places_of_each ts)
     targets_in_line tree.no_targets rs n d is ms below under h e = none_in_line n d is h.0
     targets_in_line (tree.more_targets t ts) rs n d is ms below under h e =
         let lower = subst (λ l. AllBelow d l) h.2 below in
-        let reads = ap (λ l. patterns_layer (read d) l) (sym h.2) ∙ e in
+        let reads = ap (λ l. patterns_layer store source_map (read d) l) (sym h.2) ∙ e in
         cons_in_line n d is h.0 h.1 (places t) (places_of_each ts) h.2 under
         (λ one. target_in_line t rs n d h.0 h.3.left lower.0 h.3.first (ap first_of reads) one)
         (λ more. targets_in_line ts rs n d h.1 h.3.right lower.1 more h.3.second (ap others_of reads))
@@ -253,15 +256,15 @@ module _ (store : Store) (source_map : SourceMap) (self : Option BindingId) (o :
 
     fields_in_line : (fs : TargetFields) (rs : Open) (n d : ℕ) (is : List RecordFieldPat) (ms : List Mapping) → AllBelow d (map field_pat is)
         → EachBelow n (exprs_each d (map field_pat is)) → CorrespondsTargetFields store source_map rs fs is ms
-        → pattern_fields_layer (read d) is ≡ target_fields_data fs → InLine n (exprs_each d (map field_pat is)) (places_of_fields fs)
+        → pattern_fields_layer store source_map (read d) is ≡ target_fields_data fs → InLine n (exprs_each d (map field_pat is)) (places_of_fields fs)
     fields_in_line tree.no_target_fields rs n d is ms below under h e = none_in_line n d (map field_pat is) (ap (λ l. map field_pat l) h.0)
     fields_in_line (tree.more_target_fields (tree.target_field at None t) fs) rs n d is ms below under h e =
         fields_in_line fs rs n d is h.1.right below under h.1.second e
     fields_in_line (tree.more_target_fields (tree.target_field at (Some name) t) fs) rs n d is ms below under h e =
         let lower = subst (λ l. AllBelow d (map field_pat l)) h.2 below in
-        let reads = ap (λ l. pattern_fields_layer (read d) l) (sym h.2) ∙ e in
+        let reads = ap (λ l. pattern_fields_layer store source_map (read d) l) (sym h.2) ∙ e in
         cons_in_line n d (map field_pat is) h.0 (map field_pat h.1) (places t) (places_of_fields fs) (ap (λ l. map field_pat l) h.2) under
-        (λ one. target_in_line t rs n d h.0 h.3.left.left lower.0 h.3.first.first (ap first_field reads) one)
+        (λ one. target_in_line t rs n d h.0 h.3.first.left lower.0 h.3.first.first (ap first_field reads) one)
         (λ more. fields_in_line fs rs n d h.1 h.3.right lower.1 more h.3.second (ap other_fields reads))
     fields_in_line (tree.more_target_fields (tree.disabled_target_field at by) fs) rs n d is ms below under h e =
         fields_in_line fs rs n d is ms below under h e

@@ -33,7 +33,7 @@ module _ (store : Store) (source_map : SourceMap) (self : Option BindingId) (o :
   bindings_whole q d there less = ap (λ l. flat_map (binding_at store) l)
       (pats_in_whole store o.patterns q there (o.once q there) ∙ same_levels store o.patterns (suc q.0) d q (omega arith) less)
 
-  top_pairs : (ks : List BindingId) (rs : Open) (p : OptionPat) (q : PatId) (ms : List Mapping) → q.0 < length store.pats
+  pub top_pairs : (ks : List BindingId) (rs : Open) (p : OptionPat) (q : PatId) (ms : List Mapping) → q.0 < length store.pats
       → NamesOf store source_map p q ks → CorrespondsPatPart store source_map ks rs p [] q ms
       → Pairs ks (bindings_in store q) (names_of_part p [])
   unfolding stored_pat
@@ -51,7 +51,7 @@ module _ (store : Store) (source_map : SourceMap) (self : Option BindingId) (o :
   same_top rs p q ms there h below ns same = same_pairs store source_map self p q h.0 (bindings_in store q) (names_of_part p []) below ns h.1
       (top_pairs h.0 rs p q ms there h.1 h.2) same
 
-  ribs-append : (as' bs : List BindingId) → binding_ribs store (as' ++ bs) ≡ binding_ribs store as' ++ binding_ribs store bs
+  pub ribs-append : (as' bs : List BindingId) → binding_ribs store (as' ++ bs) ≡ binding_ribs store as' ++ binding_ribs store bs
   ribs-append [] bs = refl
   ribs-append (a ∷ as') bs = ap (λ l. binding_rib store a (slice_get store.bindings a.0) ++ l) (ribs-append as' bs)
       ∙ sym (append_assoc (binding_rib store a (slice_get store.bindings a.0)) (binding_ribs store as') (binding_ribs store bs))
@@ -76,12 +76,12 @@ module _ (store : Store) (source_map : SourceMap) (self : Option BindingId) (o :
       subst (λ rs. SameRibs store source_map self rs (with_tops (params_tops (tree.more_params (tree.param p t) xs)) ns)) (sym whole)
       (subst (λ ns. SameRibs store source_map self (binding_ribs store (bindings_in store q) ++ outer) ns)
       (sym (append_assoc (top_names p) (flat_map top_names (params_tops xs)) ns))
-      (same_top rs p q h.4.left.left lower.0 h.4.first.first outer (with_tops (params_tops xs) ns)
+      (same_top rs p q h.4.first.left lower.0 h.4.first.first outer (with_tops (params_tops xs) ns)
       (same_params rs xs others h.4.right lower.1 h.4.second below ns same)))
 
   -- patterns that lowering makes up
 
-  one_step : (q : PatId) (f : HirPat) → slice_get store.pats q.0 ≡ Some f → q.0 < length store.pats
+  pub one_step : (q : PatId) (f : HirPat) → slice_get store.pats q.0 ≡ Some f → q.0 < length store.pats
       → bindings_in store q ≡ pat_binding f ++ flat_map (binding_at store) (flat_map (pats_to store q.0) (pat_children f))
   one_step q f found there = bindings_whole q (suc q.0) there (omega arith) ∙ binds_found store source_map o.patterns [] q.0 q f found
 
