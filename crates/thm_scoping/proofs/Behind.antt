@@ -155,11 +155,11 @@ module _ (store : Store) (source_map : SourceMap) (self : Option BindingId) (o :
     behind_same (tree.while_expr at None _ c b) rs i ms ss ns h same = silent i _ h.4.stored (λ g ts. refl) ss ns same
     behind_same (tree.while_expr at (Some l) _ c b) rs i ms ss ns h same = silent i _ h.2.second.4.stored (λ g ts. refl) ss ns same
     behind_same (tree.for_expr at items label _ p head b) rs i ms ss ns h same =
-        first_behind i h.1 _ _ h.6.stored (o.parts i _ h.6.stored).0 (λ g ts. refl) ss
+        first_behind i h.1 _ (with_each (lets_of_part head) ns) h.6.stored (o.parts i _ h.6.stored).0 (λ g ts. refl) ss
         (plain h.1 (part head) (lets_of_part head) (item_call_plain store source_map self o _ (Some items.into_iter) rs head h.0 h.1
         h.7.left h.7.second.left h.7.first h.7.second.first) (part_holds head) (lets_in_part head) ss ns same)
     behind_same (tree.question_expr at items e) rs i ms ss ns h same =
-        first_behind i h.1 _ _ h.4.stored (o.parts i _ h.4.stored).0 (λ g ts. refl) ss
+        first_behind i h.1 _ (with_each (lets_of_part e) ns) h.4.stored (o.parts i _ h.4.stored).0 (λ g ts. refl) ss
         (plain h.1 (part e) (lets_of_part e) (item_call_plain store source_map self o at (Some items.branch) rs e h.0 h.1
         h.5.left h.5.second.left h.5.first h.5.second.first) (part_holds e) (lets_in_part e) ss ns same)
     behind_same (tree.itemless_expr at) rs i ms ss ns h same = silent i hir.Missing h.0.stored (λ g ts. refl) ss ns same

@@ -104,7 +104,7 @@ module _ (store : Store) (source_map : SourceMap) (self : Option BindingId) (o :
   let_after g (Some i) (Some z) ss = refl
 
   -- where the tail of a block stands
-  pub block_end : (g : ExprId → Scopes → Scopes) → List Statement → Spot → Spot
+  unfoldable pub block_end : (g : ExprId → Scopes → Scopes) → List Statement → Spot → Spot
   block_end g [] x = x
   block_end g (s ∷ ss) x = block_end g ss (past_statement store g s x)
 

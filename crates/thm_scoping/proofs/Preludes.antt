@@ -183,13 +183,13 @@ module _ (store : Store) (source_map : SourceMap) (self : Option BindingId) (o :
         ∙ (append_assoc (binding_ribs store (bindings_in store q)) (binding_ribs store (flat_map (bindings_in store) h.1)) rs
         ∙ ap (λ l. l ++ outer) rib.1)) in
         subst (λ l. So (x ∷ xs) l ns) (sym whole)
-        (by (is_for n s x.name x.hygiene) refl (handed_so xs ys h.1 h.3.right rs ns h.3.second lower.1 same))
+        (by (is_for n s x.name x.hygiene) refl rib.0 outer (handed_so xs ys h.1 h.3.right rs ns h.3.second lower.1 same))
       where
-        by : (t : Bool) → is_for n s x.name x.hygiene ≡ t → {b : BindingId} {out : List (Rib BindingId)} → So xs out ns
+        by : (t : Bool) → is_for n s x.name x.hygiene ≡ t → (b : BindingId) (out : List (Rib BindingId)) → So xs out ns
             → So (x ∷ xs) (label_rib x.name x.hygiene b ∷ out) ns
-        by true is rest = inr (inl is)
-        by false off (inl m) = inl (passed_at store source_map self contexts n s x.name x.hygiene _ _ ns off m)
-        by false off (inr k) = inr (inr k)
+        by true is b out rest = inr (inl is)
+        by false off b out (inl m) = inl (passed_at store source_map self contexts n s x.name x.hygiene b out ns off m)
+        by false off b out (inr k) = inr (inr k)
 
     -- the pattern that was handed in by the name binds it
     found_in : (p : OptionPat) (q : PatId) (rs : Open) (ms : List Mapping) (x : Named) (hd : HandedIn) (below : List (Rib BindingId))
