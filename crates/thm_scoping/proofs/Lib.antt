@@ -11,6 +11,7 @@ pub mod Contents
 pub mod Forms
 pub mod Fors
 pub mod Lets
-pub mod Agreement
 pub mod Hits
 pub mod Preludes
+pub mod Agreement
+pub mod Bodies

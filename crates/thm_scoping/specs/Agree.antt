@@ -1,5 +1,5 @@
 -- What a stored expression sees is what the written one does.
-use Rattle.std.specs.Prelude.{◌≡◌, ◌≤◌, ◌<◌, Bool, true, false, ℕ, suc, List, [], ◌∷◌, length, slice_get, Option, Some}
+use Rattle.std.specs.Prelude.{◌≡◌, ◌≤◌, ◌<◌, ℕ, suc, List, [], ◌∷◌, length, slice_get, Option, Some, None}
 use Rattle.hir_store.specs.Children.{children}
 use Rattle.hir_store.specs.Stored.{Store, SourceMap}
 use Rattle.hir_store.specs.declared.hir.Expr.{Expr as StoredExpr}
@@ -9,15 +9,17 @@ use Rattle.hir_store.specs.declared.ids.ExprId.{ExprId}
 use Rattle.hir_store.specs.declared.ids.PatId.{PatId}
 use Rattle.hir_store.specs.declared.pat.Pat.{Pat}
 use Rattle.hir_store.specs.declared.pat.Pat.TheVariants as pat
-use Rattle.hir_env.specs.ResolvedTree as tree
-use Rattle.hir_env.specs.ResolvedTree.{Expr, OptionExpr}
+use Rattle.hir_env.specs.ResolvedTree.{Expr, Formals, OptionExpr}
 use Rattle.hir_walks.specs.Exprs.{expr_constants, expr_pats, exprs_in_pat, path_constants}
 use Rattle.hir_walks.specs.Pats.{AllBelow, Descends, pats_to}
-use Rattle.spec_scopes.specs.Placed.{Sees, Spot, after}
+use Rattle.spec_scopes.specs.Placed.{Sees, Spot, after, outermost}
 use Rattle.spec_scopes.specs.Scopes.{Scopes}
-use Rattle.spec_scoping.specs.Scoping.{IsAmong, Where, in_turn, part, parts}
+use Rattle.spec_scoping.specs.Scoping.{Stands, Where, outside}
 use Rattle.thm_body_result.specs.Corresponds.{Corresponds, CorrespondsPart, Open}
+use Rattle.thm_body_result.specs.Diagnostics.{Faults}
+use Rattle.thm_body_result.specs.Formals.{Given, formals_read}
 use Rattle.thm_body_result.specs.Leads.{Mapping}
+use Rattle.thm_body_result.specs.OneResult.{OneResult}
 use Rattle.thm_scoping.specs.Meant.{SameAt}
 
 abbrev pub EachBelow : ℕ → List ExprId → Type 0
@@ -60,20 +62,16 @@ module _ (store : Store) (source_map : SourceMap) (self : Option BindingId) (roo
     pub sees : Sees store root start id spot
     pub same : SameAt store source_map self spot w
 
--- a closure with `async` or `gen`
-abbrev pub is_coroutine_closure : Expr → Bool
-is_coroutine_closure (tree.coroutine_closure_expr at kind moves xs t e) = true
-is_coroutine_closure _ = false
-
--- The expression stands there in the body, and in no closure with `async` or `gen`.
-pub data StandsOutside (body : OptionExpr) (start : Where) : Expr → Where → Type 0 where
-  as_part : {e : Expr} {w : Where} → IsAmong (e, w) (in_turn (part body) start) → StandsOutside body start e w
-  inside : {e c : Expr} {w v : Where} → StandsOutside body start e w → is_coroutine_closure e ≡ false → IsAmong (c, v) (parts e w)
-      → StandsOutside body start c v
-
--- From the same start each such expression of the written body has its stored one.
+-- From the same start each expression that stands anywhere in the written body has its stored one.
 abbrev pub ScopesAgree : Type 0
 ScopesAgree = (store : Store) (source_map : SourceMap) (self : Option BindingId) → Orderly store
     → (around : Open) (e : OptionExpr) (root : ExprId) (mappings : List Mapping) → CorrespondsPart store source_map around e root mappings
     → (start : Spot) (outside : Where) → SameAt store source_map self start outside
-    → (c : Expr) (w : Where) → StandsOutside e outside c w → SeesSame store source_map self root start c w
+    → (c : Expr) (w : Where) → Stands e outside c w → SeesSame store source_map self root start c w
+
+-- The same of a lowered function without `async` and `gen`, from its parameters on, of which `self` is the binding that is handed in.
+abbrev pub BodiesAgree : Type 0
+BodiesAgree = (store : Store) (source_map : SourceMap) (owed : Faults) (skipped : Bool) (f : Formals) (e : OptionExpr) (given : Given)
+    → Orderly store → (r : OneResult store source_map owed None skipped f given e) → AllBelow (length store.pats) given.0.1
+    → (c : Expr) (w : Where) → Stands e (outside f.receiver (formals_read skipped f.formals)) c w
+    → SeesSame store source_map given.0.0 r.root (outermost store given.0.0 given.0.1) c w
