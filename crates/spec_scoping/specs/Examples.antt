@@ -93,7 +93,8 @@ pub record Repeated : Type 0 where
 
 -- `|x| x`, and what stands behind it
 abbrev pub closure_x : Expr
-closure_x = tree.closure_expr (at 0) false false (tree.more_params (tree.param (x_pat 1) tree.no_type) tree.no_params) tree.no_type (x_part 2)
+closure_x = tree.closure_expr (at 0) false false (tree.more_params (tree.param (x_pat 1) tree.no_type) tree.no_params) tree.no_type
+    (x_part 2)
 
 pub record Parameter : Type 0 where
   pub body : (w : Where) → parts closure_x w ≡ (x_at 2, with_x 1 w) ∷ []

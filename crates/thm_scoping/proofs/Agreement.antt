@@ -15,7 +15,8 @@ use Rattle.thm_scoping.specs.Meant.{SameAt}
 use Rattle.thm_scoping.proofs.Fors.{for_see, try_see}
 use Rattle.thm_scoping.proofs.Forms.{block_at, closure_see, const_see, coroutine_see, if_see, loop_see, match_see, question_see, repeat_see}
 use Rattle.thm_scoping.proofs.Forms.{while_see}
-use Rattle.thm_scoping.proofs.Plain.{await_plain, become_plain, binary_plain, break_plain, call_plain, cast_plain, lazy_plain, leaving_plain}
+use Rattle.thm_scoping.proofs.Plain.{await_plain, become_plain, binary_plain, break_plain, call_plain, cast_plain, lazy_plain}
+use Rattle.thm_scoping.proofs.Plain.{leaving_plain}
 use Rattle.thm_scoping.proofs.Plain.{list_plain, method_plain, range_plain, record_plain, unary_plain, yield_plain}
 use Rattle.thm_scoping.proofs.Preludes.{coroutine_closure_see}
 use Rattle.thm_scoping.proofs.Steps.{AllSee, At, arrive, line_see, part_see, plain_see, step}

@@ -28,10 +28,13 @@ use Rattle.thm_body_result.specs.Leads.{Mapping}
 use Rattle.thm_scoping.specs.Agree.{EachBelow, Orderly}
 use Rattle.thm_scoping.proofs.Afters.{after_is, option_is, part_is}
 use Rattle.thm_scoping.proofs.Operands.{BehindSame, EachBehind, Lined, Plain, Same, behind_if, each-behind-append, each_behind}
-use Rattle.thm_scoping.proofs.Operands.{lets_in_both, lets_in_elements, lets_in_fields, lets_in_part, lets_in_rest, part_lined, plain_behind}
+use Rattle.thm_scoping.proofs.Operands.{lets_in_both, lets_in_elements, lets_in_fields, lets_in_part, lets_in_rest, part_lined}
+use Rattle.thm_scoping.proofs.Operands.{plain_behind}
 use Rattle.thm_scoping.proofs.Operands.{present_lined, silent_behind, with_each-append}
-use Rattle.thm_scoping.proofs.Plain.{await_plain, become_plain, binary_plain, break_plain, call_plain, cast_plain, item_call_plain, lazy_plain}
-use Rattle.thm_scoping.proofs.Plain.{leaf_plain, leaving_plain, list_plain, method_plain, missing_plain, path_plain, range_plain, record_plain}
+use Rattle.thm_scoping.proofs.Plain.{await_plain, become_plain, binary_plain, break_plain, call_plain, cast_plain, item_call_plain}
+use Rattle.thm_scoping.proofs.Plain.{lazy_plain}
+use Rattle.thm_scoping.proofs.Plain.{leaf_plain, leaving_plain, list_plain, method_plain, missing_plain, path_plain, range_plain}
+use Rattle.thm_scoping.proofs.Plain.{record_plain}
 use Rattle.thm_scoping.proofs.Plain.{silent_plain, unary_plain, yield_plain}
 use Rattle.thm_scoping.proofs.Targets.{assign_plain}
 use Rattle.thm_scoping.proofs.Tops.{same_top}
@@ -163,10 +166,12 @@ module _ (store : Store) (source_map : SourceMap) (self : Option BindingId) (o :
         (plain h.1 (part e) (lets_of_part e) (item_call_plain store source_map self o at (Some items.branch) rs e h.0 h.1
         h.5.left h.5.second.left h.5.first h.5.second.first) (part_holds e) (lets_in_part e) ss ns same)
     behind_same (tree.itemless_expr at) rs i ms ss ns h same = silent i hir.Missing h.0.stored (λ g ts. refl) ss ns same
-    behind_same (tree.try_expr at item tree.no_type number statements e) rs i ms ss ns h same = silent i _ h.8.stored (λ g ts. refl) ss ns same
+    behind_same (tree.try_expr at item tree.no_type number statements e) rs i ms ss ns h same = silent i _ h.8.stored
+        (λ g ts. refl) ss ns same
     behind_same (tree.try_expr at item (tree.some_type t) number statements e) rs i ms ss ns h same =
         silent i _ h.5.second.second.second.second.0.stored (λ g ts. refl) ss ns same
-    behind_same (tree.coroutine_expr at kind moves number statements e) rs i ms ss ns h same = silent i _ h.2.5.stored (λ g ts. refl) ss ns same
+    behind_same (tree.coroutine_expr at kind moves number statements e) rs i ms ss ns h same = silent i _ h.2.5.stored
+        (λ g ts. refl) ss ns same
     behind_same (tree.call_expr at f has_list es) rs i ms ss ns h same =
         plain i (part f ++ elements es) _ (call_plain store source_map self o at f has_list es rs i ms h)
         (both (part f) (elements es) (part_holds f) (each_holds es))
@@ -183,10 +188,12 @@ module _ (store : Store) (source_map : SourceMap) (self : Option BindingId) (o :
     behind_same (tree.leaf_expr at form) rs i ms ss ns h same =
         plain i [] [] (leaf_plain store source_map self o form i h.0.stored) tt refl ss ns same
     behind_same (tree.unary_expr at form e) rs i ms ss ns h same =
-        plain i (part e) _ (unary_plain store source_map self o form rs e i h.0 h.2.left h.1.stored h.2.first) (part_holds e) (lets_in_part e)
+        plain i (part e) _ (unary_plain store source_map self o form rs e i h.0 h.2.left h.1.stored h.2.first) (part_holds e)
+        (lets_in_part e)
         ss ns same
     behind_same (tree.binary_expr at form a b) rs i ms ss ns h same =
-        plain i (part a ++ part b) _ (binary_plain store source_map self o form rs a b i h.0 h.1 h.3.left h.3.second.left h.2.stored h.3.first
+        plain i (part a ++ part b) _
+        (binary_plain store source_map self o form rs a b i h.0 h.1 h.3.left h.3.second.left h.2.stored h.3.first
         h.3.second.first) (both (part a) (part b) (part_holds a) (part_holds b))
         (lets_in_both (part a) (part b) _ _ (lets_in_part a) (lets_in_part b)) ss ns same
     behind_same (tree.lazy_expr at op a b) rs i ms ss ns h same =
@@ -198,7 +205,8 @@ module _ (store : Store) (source_map : SourceMap) (self : Option BindingId) (o :
     behind_same (tree.repeat_expr at e c) rs i ms ss ns h same =
         let f : StoredExpr = hir.Array (array.Repeat h.0 h.1) in
         line_behind i f (h.0 ∷ []) (part e) (lets_of_part e) h.2.stored (λ g ts. refl)
-        (part_lined store source_map self i.0 rs e h.0 h.3.left (o.parts i f h.2.stored).0 h.3.first) (part_holds e) (lets_in_part e) ss ns same
+        (part_lined store source_map self i.0 rs e h.0 h.3.left (o.parts i f h.2.stored).0 h.3.first) (part_holds e)
+        (lets_in_part e) ss ns same
     behind_same (tree.const_expr at c) rs i ms ss ns h same = silent i _ h.2.1.stored (λ g ts. refl) ss ns same
     behind_same (tree.closure_expr at moves is_static xs t e) rs i ms ss ns h same = silent i _ h.2.3.stored (λ g ts. refl) ss ns same
     behind_same (tree.coroutine_closure_expr at kind moves xs t e) rs i ms ss ns h same = silent i _ h.2.8.stored (λ g ts. refl) ss ns same
@@ -215,7 +223,8 @@ module _ (store : Store) (source_map : SourceMap) (self : Option BindingId) (o :
         (lets_in_record (path_of p) fs s) ss ns same
     behind_same (tree.offset_of_expr at t names) rs i ms ss ns h same = silent i _ h.1.stored (λ g ts. refl) ss ns same
     behind_same (tree.leaving_expr at form e) rs i ms ss ns h same =
-        plain i (part e) _ (leaving_plain store source_map self o form rs e i h.0 h.2.left h.1.stored h.2.first) (part_holds e) (lets_in_part e)
+        plain i (part e) _ (leaving_plain store source_map self o form rs e i h.0 h.2.left h.1.stored h.2.first) (part_holds e)
+        (lets_in_part e)
         ss ns same
     behind_same (tree.become_expr at e) rs i ms ss ns h same =
         plain i (part e) _ (become_plain store source_map self o at e rs i ms h) (part_holds e) (lets_in_part e) ss ns same
@@ -228,7 +237,8 @@ module _ (store : Store) (source_map : SourceMap) (self : Option BindingId) (o :
     behind_same (tree.match_expr at e arms) rs i ms ss ns h same =
         let f : StoredExpr = hir.Match h.0 h.1 in
         line_behind i f (h.0 ∷ []) (part e) (lets_of_part e) h.2.stored (λ g ts. refl)
-        (part_lined store source_map self i.0 rs e h.0 h.3.left (o.parts i f h.2.stored).0 h.3.first) (part_holds e) (lets_in_part e) ss ns same
+        (part_lined store source_map self i.0 rs e h.0 h.3.left (o.parts i f h.2.stored).0 h.3.first) (part_holds e)
+        (lets_in_part e) ss ns same
     behind_same (tree.range_expr at form low high) rs i ms ss ns h same =
         plain i (ends form low high) _ (range_plain store source_map self o at form low high rs i ms h)
         (if_there form low high (part_holds low) (part_holds high)) (lets_in_ends form low high) ss ns same
@@ -249,7 +259,8 @@ module _ (store : Store) (source_map : SourceMap) (self : Option BindingId) (o :
 
     each_holds : (es : Exprs) → Behinds (elements es)
     each_holds tree.no_exprs = tt
-    each_holds (tree.more_exprs e es) = both _ (elements es) (behind_if store source_map self (is_enabled e) e (behind_same e)) (each_holds es)
+    each_holds (tree.more_exprs e es) = both _ (elements es) (behind_if store source_map self (is_enabled e) e (behind_same e))
+        (each_holds es)
 
     fields_hold : (fs : Fields) → Behinds (field_values fs)
     fields_hold tree.no_fields = tt

@@ -1,6 +1,7 @@
 -- The statements and the tail of a block.
 use Rattle.std.proofs.Common.{◌≡◌, ◌∙◌, refl, sym, ap, subst, inl, inr, ◌⊎◌, ◌<◌, ℕ, Bool, true, false, true≢false, not, ◌&&◌, ◌||◌}
-use Rattle.std.proofs.Common.{List, [], ◌∷◌, ◌++◌, append_assoc, append-nil, length, Option, Some, None, option_to_list, slice_get, if◌then◌else◌}
+use Rattle.std.proofs.Common.{List, [], ◌∷◌, ◌++◌, append_assoc, append-nil, length, Option, Some, None, option_to_list, slice_get}
+use Rattle.std.proofs.Common.{if◌then◌else◌}
 use Rattle.std.specs.List.{flat_map}
 use Rattle.std.proofs.lemmas.Grind.{flat_map-append}
 use Rattle.hir_store.specs.Children.{statement_children}
@@ -21,11 +22,13 @@ use Rattle.spec_scopes.specs.Placed.{Among, Placed, Sees, Spot, after_each, afte
 use Rattle.spec_scopes.specs.Placed.{past_option, past_statement, placed_block, placed_each, placed_option, placed_statement}
 use Rattle.spec_scopes.specs.Scopes.{Scopes, pat_scope, ribs_of}
 use Rattle.spec_scoping.specs.Bound.{InScope, with_each, with_top}
-use Rattle.spec_scoping.specs.Scoping.{Standing, Where, behind_macro, behind_part, block_part, contents, enabled_part, in_turn, lets, lets_of_part}
+use Rattle.spec_scoping.specs.Scoping.{Standing, Where, behind_macro, behind_part, block_part, contents, enabled_part, in_turn, lets}
+use Rattle.spec_scoping.specs.Scoping.{lets_of_part}
 use Rattle.spec_scoping.specs.Scoping.{naming, part}
 use Rattle.spec_semantics.specs.Contents.{BlockContents}
 use Rattle.spec_semantics.specs.Left.{gives_value, is_kept, is_left, none_left}
-use Rattle.thm_body_result.specs.Corresponds.{CorrespondsContents, CorrespondsKept, CorrespondsPatPart, CorrespondsPresent, ThereIf, WithNames}
+use Rattle.thm_body_result.specs.Corresponds.{CorrespondsContents, CorrespondsKept, CorrespondsPatPart, CorrespondsPresent, ThereIf}
+use Rattle.thm_body_result.specs.Corresponds.{WithNames}
 use Rattle.thm_body_result.specs.Corresponds.{Corresponds, CorrespondsPresentBlock, Open, statement_of}
 use Rattle.thm_body_result.specs.Leads.{Mapping, Mappings}
 use Rattle.thm_scoping.specs.Agree.{EachBelow, Orderly}
@@ -154,14 +157,16 @@ module _ (store : Store) (source_map : SourceMap) (self : Option BindingId) (o :
         all-append store source_map self o root start (in_turn (enabled_part f) w) (contents ss e (behind_part f w))
         (line_see store source_map self o root start p [] (enabled_part f) x w lined (λ c y less among. absurd among) same)
         (rec x below there ins (record {
-          names = line_same store source_map self o p [] (enabled_part f) (lets_of_part f) x.names w.names lined (lets_in_enabled f) same.names;
+          names = line_same store source_map self o p [] (enabled_part f) (lets_of_part f) x.names w.names lined
+              (lets_in_enabled f) same.names;
           items = same.items;
         }))
     expr_see p f e ss rs semi (Some v) others t ms x w h below there ins same rec =
         let lined = kept_lined store source_map self p.0 rs f (Some v) ms (below.0, tt) h in
         all-append store source_map self o root start (in_turn (enabled_part f) w) (contents ss e (behind_part f w))
         (line_see store source_map self o root start p (v ∷ []) (enabled_part f) x w lined
-        (λ c y less among. ins c y less (among_left c y ((v, x) ∷ []) (placed_block store (after_part store p) others t (past store (after_part store p) v x)) among)) same)
+        (λ c y less among. ins c y less (among_left c y ((v, x) ∷ [])
+        (placed_block store (after_part store p) others t (past store (after_part store p) v x)) among)) same)
         (rec (past store (after_part store p) v x) below.1 there (λ c y less among. ins c y less (inr among)) (record {
           names = line_same store source_map self o p (v ∷ []) (enabled_part f) (lets_of_part f) x.names w.names lined (lets_in_enabled f)
               same.names;
@@ -169,7 +174,8 @@ module _ (store : Store) (source_map : SourceMap) (self : Option BindingId) (o :
         }))
 
     let_see : (p : ExprId) (top : OptionPat) (i : OptionExpr) (b : OptionBlock) (e : OptionExpr) (ss : Stmts) (rs : Open) (q : PatId)
-        (y : Option TypeRefId) (u z : Option ExprId) (others : List Statement) (t : Option ExprId) (ms ns ks : List Mapping) (x : Spot) (w : Where)
+        (y : Option TypeRefId) (u z : Option ExprId) (others : List Statement) (t : Option ExprId) (ms ns ks : List Mapping) (x : Spot)
+        (w : Where)
         → WithNames store source_map top (λ names. CorrespondsPatPart store source_map names rs top [] q) q ms
         → CorrespondsPresent store source_map rs i u ns → CorrespondsPresentBlock store source_map rs b z ks
         → Below p (statement.Let q y u z ∷ others) t → There (statement.Let q y u z ∷ others)
@@ -187,20 +193,25 @@ module _ (store : Store) (source_map : SourceMap) (self : Option BindingId) (o :
         let lined = lined-append store source_map self
         (present_lined store source_map self p.0 rs i u ns (each_below_left p.0 (option_to_list u) (option_to_list z) lower) init)
         (present_block_lined p.0 rs b z ks (each_below_right p.0 (option_to_list u) (option_to_list z) lower) otherwise) in
-        let binds = lets_in_both (part i) (block_part b) (lets_of_part i) [] (lets_in_part i) (lets_in_block b) ∙ append-nil (lets_of_part i) in
-        let outer = line_same store source_map self o p own (part i ++ block_part b) (lets_of_part i) x.names w.names lined binds same.names in
-        let after_both = subst (λ l. Same store source_map self l (with_each (lets_of_part i) w.names)) (sym (let_after g u z x.names)) outer in
+        let binds = lets_in_both (part i) (block_part b) (lets_of_part i) [] (lets_in_part i) (lets_in_block b) ∙ append-nil
+        (lets_of_part i) in
+        let outer = line_same store source_map self o p own (part i ++ block_part b)
+        (lets_of_part i) x.names w.names lined binds same.names in
+        let after_both = subst (λ l. Same store source_map self l (with_each (lets_of_part i) w.names))
+        (sym (let_after g u z x.names)) outer in
         all-append store source_map self o root start (in_turn (part i ++ block_part b) w)
         (contents ss e (naming w (with_top top (behind_part i w).names)))
         (line_see store source_map self o root start p own (part i ++ block_part b) x w lined
         (λ c v less among. ins c v less (among_left c v (placed_statement store g (statement.Let q y u z) x)
-        (placed_block store g others t (past_statement store g (statement.Let q y u z) x)) (subst (λ l. Among c v l) (sym (let_placed g q y u z x)) among))) same)
+        (placed_block store g others t (past_statement store g (statement.Let q y u z) x))
+        (subst (λ l. Among c v l) (sym (let_placed g q y u z x)) among))) same)
         (rec (past_statement store g (statement.Let q y u z) x)
         (each_below_right p.0 own (flat_map statement_children others ++ option_to_list t) split) there.1
         (λ c v less among. ins c v less (among_right c v (placed_statement store g (statement.Let q y u z) x)
         (placed_block store g others t (past_statement store g (statement.Let q y u z) x)) among))
         (record {
-          names = same_top store source_map self o rs top q ms there.0 names (ribs_of store (after_option store g z (after_option store g u x.names)))
+          names = same_top store source_map self o rs top q ms there.0 names
+              (ribs_of store (after_option store g z (after_option store g u x.names)))
               (with_each (lets_of_part i) w.names) after_both;
           items = same.items;
         }))
@@ -214,7 +225,8 @@ module _ (store : Store) (source_map : SourceMap) (self : Option BindingId) (o :
         let within = subst (λ l. Within p l t x) h.0 ins in
         line_see store source_map self o root start p (option_to_list t) (enabled_part e) x w
         (kept_lined store source_map self p.0 rs e t ms lower h.1)
-        (λ c y less among. within c y less (subst (λ l. Among c y l) (sym (placed_option_is store source_map self o (after_part store p) t x))
+        (λ c y less among. within c y less (subst (λ l. Among c y l)
+        (sym (placed_option_is store source_map self o (after_part store p) t x))
         among)) same
     contents_see (tree.more_stmts (tree.expr_stmt f semi) ss) e p rs is t ms x w h below there ins same =
         expr_see p f e ss rs semi h.0 h.1 t h.3.left x w h.3.first (subst (λ l. Below p l t) h.2 below) (subst (λ l. There l) h.2 there)

@@ -1,5 +1,6 @@
 -- The parts of each form see what the written ones do.
-use Rattle.std.proofs.Common.{arith, ◌≡◌, ◌∙◌, refl, sym, ap, subst, inl, inr, ◌<◌, ℕ, Bool, true, false, List, [], ◌∷◌, ◌++◌, append-nil, length}
+use Rattle.std.proofs.Common.{arith, ◌≡◌, ◌∙◌, refl, sym, ap, subst, inl, inr, ◌<◌, ℕ, Bool, true, false, List, [], ◌∷◌, ◌++◌, append-nil}
+use Rattle.std.proofs.Common.{length}
 use Rattle.std.proofs.Common.{Option, Some, None, option_to_list, slice_get, map, if◌then◌else◌}
 use Rattle.std.specs.List.{flat_map}
 use Rattle.hir_store.specs.Children.{arm_children}
@@ -25,16 +26,19 @@ use Rattle.hir_env.specs.ResolvedTree.{Arms, Block, Constant, Expr, ForItems, Gu
 use Rattle.hir_walks.specs.Exprs.{arm_pat}
 use Rattle.hir_walks.specs.Pats.{AllBelow, bindings_in}
 use Rattle.spec_data.specs.Tops.{params_tops}
-use Rattle.spec_scopes.specs.Placed.{Among, Placed, Sees, Spot, after, after_each, after_part, block_items, in_constant, in_scope, inside, past}
+use Rattle.spec_scopes.specs.Placed.{Among, Placed, Sees, Spot, after, after_each, after_part, block_items, in_constant, in_scope, inside}
+use Rattle.spec_scopes.specs.Placed.{past}
 use Rattle.spec_scopes.specs.Placed.{placed, placed_arm, placed_block, placed_each, placed_guarded, placed_option}
 use Rattle.spec_scopes.specs.Scopes.{Scopes, binding_ribs, binding_scope, block_scope, loop_scope, pat_scope, ribs_of}
 use Rattle.spec_scoping.specs.Bound.{InScope, with_each, with_top, with_tops}
-use Rattle.spec_scoping.specs.Scoping.{Standing, Where, behind, behind_condition, behind_part, block_part, contents, in_turn, lets_of_part, naming}
+use Rattle.spec_scoping.specs.Scoping.{Standing, Where, behind, behind_condition, behind_part, block_part, contents, in_turn}
+use Rattle.spec_scoping.specs.Scoping.{lets_of_part, naming}
 use Rattle.spec_scoping.specs.Scoping.{of_arm, of_arms, of_constant, part, where_constant}
 use Rattle.spec_semantics.specs.Contents.{BlockContents}
 use Rattle.spec_semantics.specs.Left.{gives_value, is_left}
 use Rattle.thm_body_result.specs.Corresponds.{Corresponds, CorrespondsArms, CorrespondsBlockPart, CorrespondsConstant, CorrespondsContents}
-use Rattle.thm_body_result.specs.Corresponds.{CorrespondsGuard, CorrespondsKept, CorrespondsPart, CorrespondsPatPart, Open, WithNames, opened}
+use Rattle.thm_body_result.specs.Corresponds.{CorrespondsGuard, CorrespondsKept, CorrespondsPart, CorrespondsPatPart, Open, WithNames}
+use Rattle.thm_body_result.specs.Corresponds.{opened}
 use Rattle.thm_body_result.specs.CorrespondsMade.{CorrespondsCondition, CorrespondsGivesArm, CorrespondsNext, CorrespondsToIteration}
 use Rattle.thm_body_result.specs.CorrespondsMade.{CorrespondsTry, CorrespondsWhile, CorrespondsWrapped}
 use Rattle.thm_body_result.specs.Forms.{generated_name}
@@ -46,8 +50,10 @@ use Rattle.thm_scoping.proofs.Contents.{block_end, block_see, block_split}
 use Rattle.thm_scoping.proofs.Operands.{Lined, Same, block_lined, each_below_left, each_below_right, ended, item_after, lets_in_part}
 use Rattle.thm_scoping.proofs.Operands.{lined-append, part_lined, passed, plain_behind, present_lined, silent_after, stood}
 use Rattle.thm_scoping.proofs.Plain.{item_call_plain}
-use Rattle.thm_scoping.proofs.Steps.{AllSee, At, Inside, all-append, all_behind, among_both, arrive, among_left, among_right, binds_nothing, enter}
-use Rattle.thm_scoping.proofs.Steps.{in_turn_part, items_same, line_same, line_see, part_see, placed_option_is, plain_see, step, within_empty}
+use Rattle.thm_scoping.proofs.Steps.{AllSee, At, Inside, all-append, all_behind, among_both, arrive, among_left, among_right}
+use Rattle.thm_scoping.proofs.Steps.{binds_nothing, enter}
+use Rattle.thm_scoping.proofs.Steps.{in_turn_part, items_same, line_same, line_see, part_see, placed_option_is, plain_see, step}
+use Rattle.thm_scoping.proofs.Steps.{within_empty}
 use Rattle.thm_scoping.proofs.Tops.{inside_item, same_made, same_params, same_top}
 
 abbrev constant_of : Constant → OptionExpr
@@ -120,7 +126,8 @@ module _ (store : Store) (source_map : SourceMap) (self : Option BindingId) (o :
       contents_at ss e (opened l h.0 rs) i is_unsafe (Some h.0) number b.0 b.1 b.2 b.5.left w b.4.stored b.3 b.5.first a
 
   -- a form with one part in a scope of its own
-  wrap_see : (i b : ExprId) (f : StoredExpr) (es : List Expr) (y : Spot) (w v : Where) (a : StandsAt i w) → slice_get store.exprs i.0 ≡ Some f
+  wrap_see : (i b : ExprId) (f : StoredExpr) (es : List Expr) (y : Spot) (w v : Where) (a : StandsAt i w)
+      → slice_get store.exprs i.0 ≡ Some f
       → placed store (after_part store i) f a.spot ≡ (b, y) ∷ [] → Lined store source_map self i.0 (b ∷ []) es
       → SameAt store source_map self y v → All (in_turn es v)
   wrap_see i b f es y w v a found are lined same = line_see store source_map self o root start i (b ∷ []) es y v lined
@@ -209,7 +216,8 @@ module _ (store : Store) (source_map : SourceMap) (self : Option BindingId) (o :
 
   -- `match`
 
-  guarded_see : (rs : Open) (e : OptionExpr) (g : Guard) (p : ExprId) (x : ExprId) (u : Option ExprId) (ms ns : List Mapping) (z : Spot) (v : Where)
+  guarded_see : (rs : Open) (e : OptionExpr) (g : Guard) (p : ExprId) (x : ExprId) (u : Option ExprId) (ms ns : List Mapping)
+      (z : Spot) (v : Where)
       → CorrespondsPart store source_map rs e x ms → CorrespondsGuard store source_map rs g u ns
       → EachBelow p.0 (option_to_list u ++ x ∷ [])
       → Inside store source_map self o root start p (placed_guarded store (after_part store p) u x z) → SameAt store source_map self z v
@@ -238,7 +246,8 @@ module _ (store : Store) (source_map : SourceMap) (self : Option BindingId) (o :
       let arm : MatchArm = record { pat = h.0; guard = h.2; expr = h.1 } in
       let lower = subst (λ l. EachBelow p.0 (flat_map arm_children l)) h.4 below in
       let known = subst (λ l. AllBelow (length store.pats) (map arm_pat l)) h.4 there in
-      let within = subst (λ l. Inside store source_map self o root start p (flat_map (placed_arm store (after_part store p) y) l)) h.4 ins in
+      let within = subst (λ l. Inside store source_map self o root start p
+      (flat_map (placed_arm store (after_part store p) y) l)) h.4 ins in
       let own = h.5.first in
       let z : Spot = in_scope y (pat_scope store h.0 ∷ y.names) in
       let first = placed_guarded store (after_part store p) h.2 h.1 z in
@@ -270,14 +279,16 @@ module _ (store : Store) (source_map : SourceMap) (self : Option BindingId) (o :
       (arms_see arms rs i h.1 h.3.second.left (past store (after_part store i) h.0 x) (behind_part e w) h.3.second.first lower.1
       (o.patterns_there i f found) (λ c z less among. step store source_map self o root start i f w a found c z less (inr among))
       (record {
-        names = line_same store source_map self o i (h.0 ∷ []) (part e) (lets_of_part e) x.names w.names lined (lets_in_part e) a.same.names;
+        names = line_same store source_map self o i (h.0 ∷ []) (part e) (lets_of_part e) x.names w.names lined
+            (lets_in_part e) a.same.names;
         items = a.same.items;
       }))
 
   -- constants
 
   constant_see : (rs : Open) (c : Constant) (p n : ExprId) (ms : List Mapping) (x : Spot) (w : Where)
-      → CorrespondsPart store source_map rs (constant_of c) n ms → Sees store root start n (in_constant x) → SameAt store source_map self x w
+      → CorrespondsPart store source_map rs (constant_of c) n ms → Sees store root start n (in_constant x)
+      → SameAt store source_map self x w
       → All (of_constant c w)
   constant_see rs (tree.constant e) p n ms x w h sees same = part_see store source_map self o root start rs e n ms (where_constant w) h
       (record { spot = in_constant x; sees = sees; same = record { names = same.items; items = same.items } })
@@ -308,7 +319,8 @@ module _ (store : Store) (source_map : SourceMap) (self : Option BindingId) (o :
 
   -- closures and coroutine blocks
 
-  pub closure_see : (rs : Open) (at : Pointer) (moves is_static : Bool) (xs : tree.Params) (t : tree.OptionType) (e : OptionExpr) (i : ExprId)
+  pub closure_see : (rs : Open) (at : Pointer) (moves is_static : Bool) (xs : tree.Params) (t : tree.OptionType) (e : OptionExpr)
+      (i : ExprId)
       (ms : List Mapping) (w : Where) → Corresponds store source_map rs (tree.closure_expr at moves is_static xs t e) i ms → StandsAt i w
       → All (in_turn (part e) (naming w (with_tops (params_tops xs) w.names)))
   closure_see rs at moves is_static xs t e i ms w h a =
@@ -321,12 +333,14 @@ module _ (store : Store) (source_map : SourceMap) (self : Option BindingId) (o :
       wrap_see i c.2 _ (part e) y w (naming w (with_tops (params_tops xs) w.names)) a found refl
       (part_lined store source_map self i.0 (barrier_rib ∷ rs) e c.2 last.left (o.parts i _ found).0 last.first)
       (record {
-        names = same_params store source_map self o (barrier_rib ∷ rs) xs l c.4.left (o.patterns_there i _ found) c.4.first (ribs_of store x.names) w.names
+        names = same_params store source_map self o (barrier_rib ∷ rs) xs l c.4.left (o.patterns_there i _ found) c.4.first
+            (ribs_of store x.names) w.names
             a.same.names;
         items = a.same.items;
       })
 
-  pub coroutine_see : (rs : Open) (at : Pointer) (kind : CoroutineKind) (moves : Bool) (number : Option BlockId) (ss : Stmts) (e : OptionExpr) (i : ExprId)
+  pub coroutine_see : (rs : Open) (at : Pointer) (kind : CoroutineKind) (moves : Bool) (number : Option BlockId) (ss : Stmts)
+      (e : OptionExpr) (i : ExprId)
       (ms : List Mapping) (w : Where) → Corresponds store source_map rs (tree.coroutine_expr at kind moves number ss e) i ms → StandsAt i w
       → All (contents ss e w)
   coroutine_see rs at kind moves number ss e i ms w h a =
@@ -346,4 +360,5 @@ module _ (store : Store) (source_map : SourceMap) (self : Option BindingId) (o :
       let found = h.4.stored in
       let asked : StandsAt h.1 w = go_in i h.1 _ w w a found (o.parts i _ found).0 a.spot (inl refl) a.same in
       plain_see store source_map self o root start h.1 (part e) w
-      (item_call_plain store source_map self o at (Some items.branch) rs e h.0 h.1 h.5.left h.5.second.left h.5.first h.5.second.first) asked
+      (item_call_plain store source_map self o at
+      (Some items.branch) rs e h.0 h.1 h.5.left h.5.second.left h.5.first h.5.second.first) asked

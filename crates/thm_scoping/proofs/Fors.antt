@@ -1,5 +1,6 @@
 -- The parts of a `for` and of a `try` see what the written ones do.
-use Rattle.std.proofs.Common.{arith, ◌≡◌, ◌∙◌, refl, sym, ap, subst, inl, inr, ◌⊎◌, ◌<◌, ℕ, Bool, true, false, List, [], ◌∷◌, ◌++◌, append-nil, length}
+use Rattle.std.proofs.Common.{arith, ◌≡◌, ◌∙◌, refl, sym, ap, subst, inl, inr, ◌⊎◌, ◌<◌, ℕ, Bool, true, false, List, [], ◌∷◌, ◌++◌}
+use Rattle.std.proofs.Common.{append-nil, length}
 use Rattle.std.proofs.Common.{Option, Some, None, option_to_list, slice_get}
 use Rattle.std.specs.List.{flat_map}
 use Rattle.hir_store.specs.Children.{statement_children}
@@ -26,9 +27,11 @@ use Rattle.spec_scoping.specs.Bound.{InScope, with_each, with_top}
 use Rattle.spec_scoping.specs.Scoping.{Standing, Where, behind_part, contents, in_turn, lets_of_part, naming, part}
 use Rattle.spec_semantics.specs.Contents.{BlockContents}
 use Rattle.spec_semantics.specs.Left.{gives_value, is_left}
-use Rattle.thm_body_result.specs.Corresponds.{Corresponds, CorrespondsContents, CorrespondsKept, CorrespondsPart, CorrespondsPatPart, InLabel, Open, opened}
+use Rattle.thm_body_result.specs.Corresponds.{Corresponds, CorrespondsContents, CorrespondsKept, CorrespondsPart, CorrespondsPatPart}
+use Rattle.thm_body_result.specs.Corresponds.{InLabel, Open, opened}
 use Rattle.thm_body_result.specs.Corresponds.{WithNames}
-use Rattle.thm_body_result.specs.CorrespondsMade.{CorrespondsNext, CorrespondsToIteration, CorrespondsToLoop, CorrespondsTry, CorrespondsWrapped}
+use Rattle.thm_body_result.specs.CorrespondsMade.{CorrespondsNext, CorrespondsToIteration, CorrespondsToLoop, CorrespondsTry}
+use Rattle.thm_body_result.specs.CorrespondsMade.{CorrespondsWrapped}
 use Rattle.thm_body_result.specs.Leads.{Mapping}
 use Rattle.thm_scoping.specs.Agree.{EachBelow, Orderly}
 use Rattle.thm_scoping.specs.Meant.{SameAt, SameRibs}
@@ -37,7 +40,8 @@ use Rattle.thm_scoping.proofs.Contents.{block_end, block_see, block_split}
 use Rattle.thm_scoping.proofs.Forms.{go_in}
 use Rattle.thm_scoping.proofs.Operands.{Same, each_below_left, each_below_right, item_after, lets_in_part, plain_behind, silent_after}
 use Rattle.thm_scoping.proofs.Plain.{item_call_plain}
-use Rattle.thm_scoping.proofs.Steps.{AllSee, At, Inside, all-append, all_behind, among_both, among_left, among_right, binds_nothing, items_same}
+use Rattle.thm_scoping.proofs.Steps.{AllSee, At, Inside, all-append, all_behind, among_both, among_left, among_right, binds_nothing}
+use Rattle.thm_scoping.proofs.Steps.{items_same}
 use Rattle.thm_scoping.proofs.Steps.{part_see, plain_see, step}
 use Rattle.thm_scoping.proofs.Tops.{inside_item, same_made, same_top}
 
@@ -86,7 +90,8 @@ module _ (store : Store) (source_map : SourceMap) (self : Option BindingId) (o :
       ∙ ap (λ (m : MatchArm). Some (hir.Match next (done_arm ∷ m ∷ []))) gives.2) in
       let lower = o.parts choice f found in
       let there = o.patterns_there choice f found in
-      let at_choice : StandsAt choice v = go_in store source_map self o root start it choice _ v v a block_found (o.parts it _ block_found).0
+      let at_choice : StandsAt choice v = go_in store source_map self o root start it choice _ v v a block_found
+      (o.parts it _ block_found).0
       (record { names = block_scope None None ∷ a.spot.names; items = a.spot.items }) (inl refl)
       (record { names = a.same.names; items = a.same.items }) in
       let x = at_choice.spot in
@@ -112,7 +117,8 @@ module _ (store : Store) (source_map : SourceMap) (self : Option BindingId) (o :
       (λ t. CorrespondsToIteration store source_map at items n q (λ x. CorrespondsPart store source_map inner b x) t) l) ms
 
   -- the loop of a `for`
-  turns_see : (rs inner : Open) (at : Pointer) (k : Option LabelId) (items : ForItems) (n : ℕ) (top : OptionPat) (p : PatId) (b : OptionExpr)
+  turns_see : (rs inner : Open) (at : Pointer) (k : Option LabelId) (items : ForItems) (n : ℕ) (top : OptionPat) (p : PatId)
+      (b : OptionExpr)
       (l : ExprId) (ms ns : List Mapping) (v : Where)
       → WithNames store source_map top (λ ks. CorrespondsPatPart store source_map ks rs top [] p) p ns
       → CorrespondsToLoop store source_map at k
@@ -141,13 +147,15 @@ module _ (store : Store) (source_map : SourceMap) (self : Option BindingId) (o :
       let names = all.second.second.first in
       let made = all.second.second.second.first in
       let last = all.second.second.second.second in
-      let at_iterator : StandsAt iterator w = go_in store source_map self o root start i iterator _ w w a found lower.0 x (inl refl) a.same in
+      let at_iterator : StandsAt iterator w = go_in store source_map self o root start i iterator _ w w a found lower.0 x
+      (inl refl) a.same in
       let outer = subst (λ ts. Same store source_map self ts (with_each (lets_of_part head) w.names))
       (sym (part_is store i iterator x.names lower.0))
       (plain_behind store source_map self iterator (part head) (lets_of_part head) call (all_behind store source_map self o (part head))
       (lets_in_part head) x.names w.names a.same.names) in
       let y = past store g iterator x in
-      let at_loop : StandsAt h.5 (behind_part head w) = go_in store source_map self o root start i h.5 _ w (behind_part head w) a found lower.1.0
+      let at_loop : StandsAt h.5 (behind_part head w) = go_in store source_map self o root start i h.5 _ w
+      (behind_part head w) a found lower.1.0
       (in_scope y (pat_scope store h.4 ∷ y.names)) (inr (inl refl))
       (record {
         names = same_made store source_map self o _ h.3 h.4 all.second.second.second.left there.0 made (ribs_of store (g iterator x.names))
@@ -159,7 +167,8 @@ module _ (store : Store) (source_map : SourceMap) (self : Option BindingId) (o :
       (plain_see store source_map self o root start iterator (part head) w call at_iterator)
       (by label w' last.first at_loop names)
     where
-      by : (label : Option tree.Label) (w' : tree.IsWrittenLabel label) → ForLoops rs at items label h.3 h.2 b h.5 h.7.second.second.second.second.left
+      by : (label : Option tree.Label) (w' : tree.IsWrittenLabel label)
+          → ForLoops rs at items label h.3 h.2 b h.5 h.7.second.second.second.second.left
           → StandsAt h.5 (behind_part head w)
           → WithNames store source_map top (λ ks. CorrespondsPatPart store source_map ks rs top [] h.2) h.2 h.7.second.second.left
           → All (in_turn (part b) (naming w (with_top top (behind_part head w).names)))
@@ -188,7 +197,8 @@ module _ (store : Store) (source_map : SourceMap) (self : Option BindingId) (o :
       by None h = λ c y lower among. whole c y lower (among_left c y (placed_block store g r.0 None x)
           ((v, block_end store source_map self o g r.0 x) ∷ []) among)
       by (Some e) h = λ c y lower among. split c y lower
-          (among_both c y (placed_block store g r.0 None x) ((e, block_end store source_map self o g r.0 x) ∷ []) (subst (λ l. Among c y l) (block_split store source_map self o g r.0 (Some e) x) among))
+          (among_both c y (placed_block store g r.0 None x) ((e, block_end store source_map self o g r.0 x) ∷ [])
+          (subst (λ l. Among c y l) (block_split store source_map self o g r.0 (Some e) x) among))
         where
           end : Spot
           end = block_end store source_map self o g r.0 x
@@ -215,7 +225,8 @@ module _ (store : Store) (source_map : SourceMap) (self : Option BindingId) (o :
           split c y lower (inr (inl k)) = subst (λ (s : ExprId × Spot). Sees store root start s.0 s.1) (sym k) stands
           split c y lower (inr (inr k)) = absurd k
 
-  try_at : (rs : LabelId → Open) (at : Pointer) (item : Option LangItemId) (number : Option BlockId) (ss : Stmts) (e : OptionExpr) (i : ExprId)
+  try_at : (rs : LabelId → Open) (at : Pointer) (item : Option LangItemId) (number : Option BlockId) (ss : Stmts) (e : OptionExpr)
+      (i : ExprId)
       (ms : List Mapping) (w : Where)
       → CorrespondsTry store source_map at item number (gives_value ss (is_left e))
       (λ label is u. CorrespondsContents store source_map (rs label) ss (λ around u. CorrespondsKept store source_map around e u) is u) i ms
@@ -240,7 +251,8 @@ module _ (store : Store) (source_map : SourceMap) (self : Option BindingId) (o :
       try_below : (at : Pointer) (item : Option LangItemId) (p v : ExprId) (r : List Statement × Option ExprId) (ms : List Mapping)
           → CorrespondsWrapped store source_map at item r.1 v ms → v.0 < p.0 → EachBelow p.0 (flat_map statement_children r.0)
           → EachBelow p.0 (flat_map statement_children r.0 ++ option_to_list r.1)
-      try_below at item p v r ms h less below = each_below-append p.0 (flat_map statement_children r.0) (option_to_list r.1) below (by r.1 h)
+      try_below at item p v r ms h less below = each_below-append p.0 (flat_map statement_children r.0) (option_to_list r.1) below
+          (by r.1 h)
         where
           by : (t : Option ExprId) → CorrespondsWrapped store source_map at item t v ms → EachBelow p.0 (option_to_list t)
           by None h = tt
@@ -249,8 +261,10 @@ module _ (store : Store) (source_map : SourceMap) (self : Option BindingId) (o :
               h.2.second.second.0.stored ∙ ap (λ u. Some (hir.Call h.0 (u ∷ []))) h.2.second.first.0 in
               (omega (arith, less, (o.parts v _ found).1.0), tt)
 
-  pub try_see : (rs : Open) (at : Pointer) (item : Option LangItemId) (t : tree.OptionType) (number : Option BlockId) (ss : Stmts) (e : OptionExpr)
-      (i : ExprId) (ms : List Mapping) (w : Where) → Corresponds store source_map rs (tree.try_expr at item t number ss e) i ms → StandsAt i w
+  pub try_see : (rs : Open) (at : Pointer) (item : Option LangItemId) (t : tree.OptionType) (number : Option BlockId) (ss : Stmts)
+      (e : OptionExpr)
+      (i : ExprId) (ms : List Mapping) (w : Where) → Corresponds store source_map rs (tree.try_expr at item t number ss e) i ms
+      → StandsAt i w
       → All (contents ss e w)
   try_see rs at item tree.no_type number ss e i ms w h a = try_at (λ label. try_rib label false ∷ rs) at item number ss e i ms w h a
   try_see rs at item (tree.some_type t) number ss e i ms w h a =

@@ -262,7 +262,8 @@ module _ (store : Store) (source_map : SourceMap) (self : Option BindingId) (con
         go b None us ms found e = absurd (true≢false (ap is_some (same_Some _ _ e)))
         go b (Some x) us ms found e =
             let same : first.first ≡ use_of x = same_Some _ _ (same_Some _ _ e) in
-            subst (λ (v : Use). MeansAt (label_rib x.name x.hygiene b ∷ us) (label_rib v.name v.hygiene (name_in p first.k) ∷ ms)) (sym same)
+            subst (λ (v : Use). MeansAt (label_rib x.name x.hygiene b ∷ us) (label_rib v.name v.hygiene (name_in p first.k) ∷ ms))
+            (sym same)
             (hit_at x.name x.hygiene b (name_in p first.k) us ms
             (ap (λ (v : Use). is_for n s v.name v.hygiene) (sym same)
             ∙ (ap (λ a. is_for n s a first.first.hygiene) first.name ∙ (ap (λ z. is_for n s m z) first.hygiene ∙ is)))

@@ -222,7 +222,8 @@ module _ (store : Store) (source_map : SourceMap) (self : Option BindingId) wher
   pub record Plain (i : ExprId) (es : List Expr) : Type 0 where
     pub form : StoredExpr
     pub found : slice_get store.exprs i.0 ≡ Some form
-    pub after_it : (g : ExprId → Scopes → Scopes) (ss : Scopes) → after_form store g form ss ≡ after_each store g (plain_parts store form) ss
+    pub after_it : (g : ExprId → Scopes → Scopes) (ss : Scopes) → after_form store g form ss ≡ after_each store g
+        (plain_parts store form) ss
     pub in_it : (g : ExprId → Scopes → Scopes) (x : Spot) → placed store g form x ≡ placed_each store g (plain_parts store form) x
     pub lined : Lined i.0 (plain_parts store form) es
 
@@ -230,7 +231,8 @@ module _ (store : Store) (source_map : SourceMap) (self : Option BindingId) wher
       → (ss : Scopes) (ns : InScope) → Same ss ns → Same (after store i ss) (with_each ps ns)
   plain_behind i es ps p holds same ss ns h =
       subst (λ l. Same (after store i ss) (with_each l ns)) same
-      (subst (λ ts. Same ts (with_each (flat_map lets es) ns)) (sym (after_is store i p.form p.found ss ∙ p.after_it (after_part store i) ss))
+      (subst (λ ts. Same ts (with_each (flat_map lets es) ns))
+      (sym (after_is store i p.form p.found ss ∙ p.after_it (after_part store i) ss))
       (each_behind i (plain_parts store p.form) es ss ns p.lined holds h))
 
   pub silent_behind : (i : ExprId) (f : StoredExpr) → slice_get store.exprs i.0 ≡ Some f

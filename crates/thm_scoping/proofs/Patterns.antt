@@ -25,14 +25,16 @@ use Rattle.spec_data.specs.Data as datum
 use Rattle.spec_data.specs.Data.{OptionPatData, PatData, PatFieldsData, PatShape, PatsData, absent_pattern, pat_at}
 use Rattle.spec_data.specs.Patterns.{alternatives_data, behind_comma, bind_as, ellipsis_of, fields_data, if_path, is_dots}
 use Rattle.spec_data.specs.Patterns.{leaf_pattern, patterns_data, pattern_data, pattern_part_data, path_pattern_of, range_shape}
-use Rattle.spec_data.specs.Patterns.{side_data, subpattern_data, tuple_parts_data, unary_pattern, uses_after, uses_after_each, uses_after_part}
+use Rattle.spec_data.specs.Patterns.{side_data, subpattern_data, tuple_parts_data, unary_pattern, uses_after, uses_after_each}
+use Rattle.spec_data.specs.Patterns.{uses_after_part}
 use Rattle.spec_data.specs.Reading.{Readers, bind_layer, binding_found, name_layer, patterns_layer, pattern_fields_layer, pattern_found}
 use Rattle.spec_data.specs.Reading.{pattern_layer, pattern_source, readers, subpattern_layer}
 use Rattle.spec_data.specs.Rule.{PathRead, data_of}
 use Rattle.spec_data.specs.Uses.{FirstUses, first_use, number_of}
 use Rattle.spec_data.specs.Written.{path_of}
 use Rattle.spec_scoping.specs.Bound.{names_of, names_of_each, names_of_fields, names_of_part}
-use Rattle.thm_body_result.specs.Corresponds.{BehindFront, CorrespondsBefore, CorrespondsElements, CorrespondsPat, CorrespondsPatFields, CorrespondsPatPart}
+use Rattle.thm_body_result.specs.Corresponds.{BehindFront, CorrespondsBefore, CorrespondsElements, CorrespondsPat, CorrespondsPatFields}
+use Rattle.thm_body_result.specs.Corresponds.{CorrespondsPatPart}
 use Rattle.thm_body_result.specs.Corresponds.{CorrespondsPats, CorrespondsSubpat, CorrespondsTuple, Open, OrIs, RangeIs, WherePath}
 use Rattle.thm_body_result.specs.Forms.{pat_unary_form}
 use Rattle.thm_body_result.specs.Leads.{Mapping, Mappings, No}
@@ -154,7 +156,8 @@ module _ (store : Store) (source_map : SourceMap) (descends : Descends store) (k
 
   -- a pattern that reads as a bare shape binds nothing
 
-  name_is_not_bare : (r : Readers) (n : Name) (h : HygieneId) (m : BindingAnnotation) (sub : OptionPatData) → is_bare (name_layer store source_map r n h m sub) ≡ true → ⊥
+  name_is_not_bare : (r : Readers) (n : Name) (h : HygieneId) (m : BindingAnnotation) (sub : OptionPatData) → is_bare
+      (name_layer store source_map r n h m sub) ≡ true → ⊥
   name_is_not_bare r (name.Text t) h m sub k = true≢false (sym k)
   name_is_not_bare r name.Missing h m sub k = true≢false (sym k)
   name_is_not_bare r (name.Generated n) h m sub k = true≢false (sym k)
@@ -177,7 +180,8 @@ module _ (store : Store) (source_map : SourceMap) (descends : Descends store) (k
   bare_pat r (Some (pat.Lit e)) k = (refl, refl)
   bare_pat r (Some (pat.Range op low high)) k = (refl, refl)
   bare_pat r (Some (pat.Expr e)) k = (refl, refl)
-  bare_pat r (Some (pat.Bind i sub)) k = absurd (bind_is_not_bare r (binding_found store source_map i) (subpattern_layer store source_map r sub) k)
+  bare_pat r (Some (pat.Bind i sub)) k = absurd
+      (bind_is_not_bare r (binding_found store source_map i) (subpattern_layer store source_map r sub) k)
   bare_pat r (Some (pat.TupleStruct p ellipsis ps)) k = absurd (true≢false (sym k))
   bare_pat r (Some (pat.Tuple ellipsis ps)) k = absurd (true≢false (sym k))
   bare_pat r (Some (pat.Record p fs ellipsis)) k = absurd (true≢false (sym k))
@@ -257,7 +261,8 @@ module _ (store : Store) (source_map : SourceMap) (descends : Descends store) (k
   path_is_bare (Some p) = refl
 
   -- what stands behind `@`
-  name_sub : (r : Readers) (n : Name) (h : HygieneId) (m : BindingAnnotation) (S T : OptionPatData) (u : Use) → name_layer store source_map r n h m S ≡ bind_as u T → S ≡ T
+  name_sub : (r : Readers) (n : Name) (h : HygieneId) (m : BindingAnnotation) (S T : OptionPatData) (u : Use)
+      → name_layer store source_map r n h m S ≡ bind_as u T → S ≡ T
   name_sub r (name.Text t) h m S T u e = ap sub_of e
   name_sub r name.Missing h m S T u e = ap sub_of e
   name_sub r (name.Generated n) h m S T u e = absurd (true≢false (sym (ap is_binding e)))
@@ -277,7 +282,8 @@ module _ (store : Store) (source_map : SourceMap) (descends : Descends store) (k
       (λ c below shape. front_pairs comma h.1 h.2 D js c h.4 below (ap listed shape) (λ lower reads. rec c h.2 ms lower h.5 reads))
 
   struct_pairs : (comma : Bool) (S : List PatId → Mappings) (o : Option PathRead) (i : PatId) (ms : List Mapping) (d : ℕ) → i.0 < d
-      → WherePath (option_map data_of o) (λ p ws. (path : Path) × CorrespondsTuple store source_map (λ dots is. pat.TupleStruct path dots is)
+      → WherePath (option_map data_of o) (λ p ws. (path : Path) × CorrespondsTuple store source_map
+      (λ dots is. pat.TupleStruct path dots is)
       comma S i ws) No ms
       → (from : Option Pointer) (ellipsis : Option ℕ) (D : PatsData) (js : List ℕ)
       → (reader d).pat i ≡ if_path o (λ p. pat_at from (datum.tuple_struct_pattern p ellipsis (behind_comma comma D))) absent_pattern
@@ -354,7 +360,8 @@ module _ (store : Store) (source_map : SourceMap) (descends : Descends store) (k
       inner d i _ _ js less found e (λ c below shape. rec c below (ap listed shape))
 
   -- an element of a tuple, which may be two dots
-  element_pairs : (p : Pat) (ps : Pats) (us : FirstUses) (rs : Open) (dots : Bool) → is_dots p ≡ dots → (is : List PatId) (ms : List Mapping)
+  element_pairs : (p : Pat) (ps : Pats) (us : FirstUses) (rs : Open) (dots : Bool) → is_dots p ≡ dots → (is : List PatId)
+      (ms : List Mapping)
       (d : ℕ) → AllBelow d is
       → CorrespondsBefore dots (λ i. CorrespondsPat store source_map ks rs p us i)
       (λ others. CorrespondsElements store source_map ks rs ps (uses_after p us) others) is ms
@@ -391,13 +398,16 @@ module _ (store : Store) (source_map : SourceMap) (descends : Descends store) (k
     pat_pairs (tree.name_pat at u _) us rs i ms d less h e = bare_pairs d i _ less e refl
     pat_pairs (tree.path_pat at p) us rs i ms d less h e = bare_pairs d i _ less e (path_is_bare (path_of p))
     pat_pairs (tree.tuple_struct_pat at p comma ps) us rs i ms d less h e =
-        struct_pairs comma (λ is. CorrespondsElements store source_map ks rs ps us is) (path_of p) i h.right d less h.second (Some at) (ellipsis_of comma ps) (tuple_parts_data ps us) (names_of_each ps us)
+        struct_pairs comma (λ is. CorrespondsElements store source_map ks rs ps us is) (path_of p) i h.right d less h.second (Some at)
+        (ellipsis_of comma ps) (tuple_parts_data ps us) (names_of_each ps us)
         e (λ c others ns below k reads. elements_pairs ps us rs others ns c below k reads)
     pat_pairs (tree.tuple_pat at comma ps) us rs i ms d less h e =
-        tuple_pairs comma (λ is. CorrespondsElements store source_map ks rs ps us is) i ms d less h (Some at) (ellipsis_of comma ps) (tuple_parts_data ps us) (names_of_each ps us) e
+        tuple_pairs comma (λ is. CorrespondsElements store source_map ks rs ps us is) i ms d less h (Some at) (ellipsis_of comma ps)
+        (tuple_parts_data ps us) (names_of_each ps us) e
         (λ c others ns below k reads. elements_pairs ps us rs others ns c below k reads)
     pat_pairs (tree.record_pat at p fs dots) us rs i ms d less h e =
-        record_pairs (λ is. CorrespondsPatFields store source_map ks rs fs us is) (path_of p) i h.right dots d less h.second (Some at) (fields_data fs us) (names_of_fields fs us) e
+        record_pairs (λ is. CorrespondsPatFields store source_map ks rs fs us is) (path_of p) i h.right dots d less h.second (Some at)
+        (fields_data fs us) (names_of_fields fs us) e
         (λ c is ns below k reads. fields_pairs fs us rs is ns c below k reads)
     pat_pairs (tree.or_pat at ps) us rs i ms d less h e =
         alternatives_pairs h.0 (patterns_data ps us) at i (names_of_each ps us) d less h.1 (as_many ps us rs h.0 ms h.2) e
@@ -410,7 +420,8 @@ module _ (store : Store) (source_map : SourceMap) (descends : Descends store) (k
         let past = uses_after_part middle between in
         let parts = h.4 in
         let last = parts.second in
-        inner d i (pat.Slice h.0 h.1 h.2) _ (names_of_each before us ++ (names_of_part middle between ++ names_of_each behind past)) less h.3 e
+        inner d i (pat.Slice h.0 h.1 h.2) _ (names_of_each before us ++
+        (names_of_part middle between ++ names_of_each behind past)) less h.3 e
         (λ c below shape.
         let others = below_right c h.0 (option_to_list h.1 ++ h.2) below in
         append_pairs c h.0 (option_to_list h.1 ++ h.2) (names_of_each before us) (names_of_part middle between ++ names_of_each behind past)
@@ -432,7 +443,8 @@ module _ (store : Store) (source_map : SourceMap) (descends : Descends store) (k
 
     subpat_pairs : (p : OptionPat) (us : FirstUses) (rs : Open) (o : Option PatId) (ms : List Mapping) (d : ℕ)
         → AllBelow d (option_to_list o) → CorrespondsSubpat store source_map ks rs p us o ms
-        → subpattern_layer store source_map (reader d) o ≡ subpattern_data p us → Pairs ks (binds_each d (option_to_list o)) (names_of_part p us)
+        → subpattern_layer store source_map (reader d) o ≡ subpattern_data p us → Pairs ks (binds_each d (option_to_list o))
+        (names_of_part p us)
     subpat_pairs tree.no_pat us rs o ms d below h e = no_pairs d (option_to_list o) (ap option_to_list h.0)
     subpat_pairs (tree.some_pat p) us rs o ms d below h e =
         let lower = subst (λ x. AllBelow d (option_to_list x)) h.1 below in
@@ -464,7 +476,8 @@ module _ (store : Store) (source_map : SourceMap) (descends : Descends store) (k
 
     fields_pairs : (fs : PatFields) (us : FirstUses) (rs : Open) (is : List RecordFieldPat) (ms : List Mapping) (d : ℕ)
         → AllBelow d (map field_pat is) → CorrespondsPatFields store source_map ks rs fs us is ms
-        → pattern_fields_layer store source_map (reader d) is ≡ fields_data fs us → Pairs ks (binds_each d (map field_pat is)) (names_of_fields fs us)
+        → pattern_fields_layer store source_map (reader d) is ≡ fields_data fs us → Pairs ks (binds_each d (map field_pat is))
+        (names_of_fields fs us)
     fields_pairs tree.no_pat_fields us rs is ms d below h e = no_pairs d (map field_pat is) (ap (λ l. map field_pat l) h.0)
     fields_pairs (tree.more_pat_fields (tree.pat_field at None p) fs) us rs is ms d below h e =
         fields_pairs fs (uses_after p us) rs is h.1.right d below h.1.second e
@@ -475,5 +488,6 @@ module _ (store : Store) (source_map : SourceMap) (descends : Descends store) (k
         (ap (λ l. map field_pat l) h.2)
         (pat_pairs p us rs h.0 h.3.first.left d lower.0 h.3.first.first (ap first_field reads))
         (fields_pairs fs (uses_after p us) rs h.1 h.3.right d lower.1 h.3.second (ap other_fields reads))
-    fields_pairs (tree.more_pat_fields (tree.disabled_pat_field at by f) fs) us rs is ms d below h e = fields_pairs fs us rs is ms d below h e
+    fields_pairs (tree.more_pat_fields (tree.disabled_pat_field at by f) fs) us rs is ms d below h e =
+        fields_pairs fs us rs is ms d below h e
     fields_pairs (tree.more_pat_fields tree.partless_pat_field fs) us rs is ms d below h e = fields_pairs fs us rs is ms d below h e

@@ -30,7 +30,8 @@ use Rattle.spec_scopes.specs.Placed.{Spot, after_each, after_form, placed, place
 use Rattle.spec_scopes.specs.Scopes.{Scopes}
 use Rattle.spec_scoping.specs.Scoping.{elements, ends, field_values, operands, part, rest_of}
 use Rattle.thm_body_result.specs.Corresponds.{Corresponds, CorrespondsEach, CorrespondsFields, CorrespondsList, CorrespondsOthers}
-use Rattle.thm_body_result.specs.Corresponds.{CorrespondsPart, CorrespondsPath, CorrespondsPresent, CorrespondsRange, CorrespondsRecord, Open}
+use Rattle.thm_body_result.specs.Corresponds.{CorrespondsPart, CorrespondsPath, CorrespondsPresent, CorrespondsRange, CorrespondsRecord}
+use Rattle.thm_body_result.specs.Corresponds.{Open}
 use Rattle.thm_body_result.specs.CorrespondsMade.{CorrespondsItemCall}
 use Rattle.thm_body_result.specs.Forms.{binary_form, lazy_form, leaf_form, leaving_form, range_fields, unary_form}
 use Rattle.thm_body_result.specs.Leads.{Mapping, Mappings, ◌&◌}

@@ -1,5 +1,6 @@
 -- The body of a closure with `async` or `gen`, behind the `let`s of its parameters.
-use Rattle.std.proofs.Common.{◌≡◌, ◌∙◌, refl, sym, ap, subst, inl, inr, ◌⊎◌, ◌<◌, ℕ, Bool, true, false, true≢false, ◌&&◌, List, [], ◌∷◌, ◌++◌}
+use Rattle.std.proofs.Common.{◌≡◌, ◌∙◌, refl, sym, ap, subst, inl, inr, ◌⊎◌, ◌<◌, ℕ, Bool, true, false, true≢false, ◌&&◌, List, [], ◌∷◌}
+use Rattle.std.proofs.Common.{◌++◌}
 use Rattle.std.proofs.Common.{append_assoc, append-nil, length, map, Option, Some, None, option_to_list, slice_get}
 use Rattle.std.specs.List.{flat_map}
 use Rattle.std.proofs.lemmas.Grind.{flat_map-append}
@@ -38,7 +39,8 @@ use Rattle.spec_scoping.specs.Scoping.{Where, in_turn, naming, part}
 use Rattle.spec_scoping.specs.Bound.{InScope, names_of_part, with_each, with_top}
 use Rattle.thm_body_result.specs.Corresponds.{Corresponds, CorrespondsParams, CorrespondsPatPart, Open, WithNames}
 use Rattle.thm_body_result.specs.CorrespondsMade.{StoredParams}
-use Rattle.thm_body_result.specs.CorrespondsPreludes.{CorrespondsBind, CorrespondsHanded, CorrespondsLet, CorrespondsLetAs, CorrespondsLets, CorrespondsRead}
+use Rattle.thm_body_result.specs.CorrespondsPreludes.{CorrespondsBind, CorrespondsHanded, CorrespondsLet, CorrespondsLetAs}
+use Rattle.thm_body_result.specs.CorrespondsPreludes.{CorrespondsLets, CorrespondsRead}
 use Rattle.thm_body_result.specs.CorrespondsPreludes.{CorrespondsTwoLets}
 use Rattle.thm_body_result.specs.CorrespondsPreludes.{IsHandedBy, Named, let_from, the_name}
 use Rattle.thm_body_result.specs.Forms.{path_of_name}
@@ -99,7 +101,8 @@ module _ (store : Store) (source_map : SourceMap) (self : Option BindingId) (o :
   read_after x i ms h g ss = part_passed store g i ss (silent_after store source_map self i _ h.0.stored (λ f ts. refl) ss)
 
   end-append : (g : ExprId → Scopes → Scopes) (as' bs : List Statement) (x : Spot)
-      → block_end store source_map self o g (as' ++ bs) x ≡ block_end store source_map self o g bs (block_end store source_map self o g as' x)
+      → block_end store source_map self o g (as' ++ bs) x ≡ block_end store source_map self o g bs
+      (block_end store source_map self o g as' x)
   unfolding block_end
   end-append g [] bs x = refl
   end-append g (a ∷ as') bs x = end-append g as' bs (past_statement store g a x)
@@ -150,8 +153,10 @@ module _ (store : Store) (source_map : SourceMap) (self : Option BindingId) (o :
       → AllBelow (length store.pats) (flat_map statement_pats own) → CorrespondsLetAs store source_map hd x from q own ms
       → q.0 < length store.pats
   let_there (by_name n h) x from q own ms there c = (subst (λ l. AllBelow (length store.pats) (flat_map statement_pats l)) c.1 there).0
-  let_there (by_its_name n h) x from q own ms there c = (subst (λ l. AllBelow (length store.pats) (flat_map statement_pats l)) c.3 there).1.0
-  let_there by_generated_name x from q own ms there c = (subst (λ l. AllBelow (length store.pats) (flat_map statement_pats l)) c.3 there).1.0
+  let_there (by_its_name n h) x from q own ms there c =
+      (subst (λ l. AllBelow (length store.pats) (flat_map statement_pats l)) c.3 there).1.0
+  let_there by_generated_name x from q own ms there c =
+      (subst (λ l. AllBelow (length store.pats) (flat_map statement_pats l)) c.3 there).1.0
 
   module _ (contexts : Contexts) (n : Name) (s : Sought) (written : IsWritten n) where
     abbrev Here : List (Rib BindingId) → InScope → Type 0
@@ -209,7 +214,8 @@ module _ (store : Store) (source_map : SourceMap) (self : Option BindingId) (o :
         ∙ (ap (λ (z : Named). is_for n s z.name z.hygiene) handed.1 ∙ no_generated n s handed.0 _ written)))
 
     -- behind the `let` of one parameter
-    bound_so : (p : OptionPat) (q : PatId) (rs : Open) (ms : List Mapping) (x : Named) (xs : List Named) (between below : List (Rib BindingId))
+    bound_so : (p : OptionPat) (q : PatId) (rs : Open) (ms : List Mapping) (x : Named) (xs : List Named)
+        (between below : List (Rib BindingId))
         (ns : InScope) → q.0 < length store.pats
         → WithNames store source_map p (λ ks. CorrespondsPatPart store source_map ks rs p [] q) q ms
         → IsHandedBy (handed_in (written_pat p)) x
@@ -220,7 +226,8 @@ module _ (store : Store) (source_map : SourceMap) (self : Option BindingId) (o :
       where
         by : (t : Bool) → is_for n s x.name x.hygiene ≡ t → So (x ∷ xs) below ns
             → So xs (binding_ribs store (bindings_in store q) ++ (between ++ below)) (with_top p ns)
-        by true is so = inl (found_in p q rs ms x (handed_in (written_pat p)) (between ++ below) ns there h (handed_binds (written_pat p)) handed is)
+        by true is so = inl (found_in p q rs ms x (handed_in (written_pat p)) (between ++ below) ns there h
+            (handed_binds (written_pat p)) handed is)
         by false off (inl m) = inl (pairs_at store source_map self contexts n s p q h.0 h.1 (bindings_in store q) (names_of_part p [])
             (between ++ below) ns (top_pairs store source_map self o h.0 rs p q ms there h.1 h.2) (passes off m))
         by false off (inr (inl is)) = absurd (true≢false (sym is ∙ off))
@@ -242,7 +249,8 @@ module _ (store : Store) (source_map : SourceMap) (self : Option BindingId) (o :
     one_so p q rs ms x xs names below ns there h handed b so = subst (λ l. So xs l (with_top p ns)) (sym b.are)
         (bound_so p q rs ms x xs b.between below ns there h handed (λ off m. passes b.is_handed off m) so)
       where
-        passes : (b.between ≡ []) ⊎ ((c : BindingId) × (b.between ≡ label_rib x.name x.hygiene c ∷ [])) → is_for n s x.name x.hygiene ≡ false
+        passes : (b.between ≡ []) ⊎ ((c : BindingId) × (b.between ≡ label_rib x.name x.hygiene c ∷ []))
+            → is_for n s x.name x.hygiene ≡ false
             → Here below ns → Here (b.between ++ below) ns
         passes (inl none) off m = subst (λ l. Here (l ++ below) ns) (sym none) m
         passes (inr one) off m = subst (λ l. Here (l ++ below) ns) (sym one.1)
@@ -260,7 +268,8 @@ module _ (store : Store) (source_map : SourceMap) (self : Option BindingId) (o :
     lets_so (tree.more_params (tree.disabled_param at by x) params) l rs ms xs lets ks g y ns known h c so =
         lets_so params l rs ms xs lets ks g y ns known h c so
     lets_so (tree.more_params (tree.param p t) params) l rs ms [] lets ks g y ns known h c so =
-        absurd (subst (λ (k : StoredParams). CorrespondsLets store source_map [] (map written_pat (params_tops (tree.more_params (tree.param p t) params)))
+        absurd (subst (λ (k : StoredParams). CorrespondsLets store source_map []
+        (map written_pat (params_tops (tree.more_params (tree.param p t) params)))
         k.0 lets ks) h.3 c)
     lets_so (tree.more_params (tree.param p t) params) l rs ms (x ∷ xs) lets ks g y ns known h c so =
         let d = subst (λ (k : StoredParams). CorrespondsLets store source_map (x ∷ xs)
@@ -288,7 +297,8 @@ module _ (store : Store) (source_map : SourceMap) (self : Option BindingId) (o :
   own_items (by_its_name n h) x from q own ms g y c = ap (λ l. (block_end store source_map self o g l y).items) c.3
   own_items by_generated_name x from q own ms g y c = ap (λ l. (block_end store source_map self o g l y).items) c.3
 
-  end_items : (xs : List Named) (ys : List PatData) (ps : List PatId) (ss : List Statement) (ms : List Mapping) (g : ExprId → Scopes → Scopes)
+  end_items : (xs : List Named) (ys : List PatData) (ps : List PatId) (ss : List Statement) (ms : List Mapping)
+      (g : ExprId → Scopes → Scopes)
       (y : Spot) → CorrespondsLets store source_map xs ys ps ss ms → (block_end store source_map self o g ss y).items ≡ y.items
   unfolding block_end
   end_items [] [] [] ss ms g y h = ap (λ l. (block_end store source_map self o g l y).items) h.0
@@ -325,7 +335,8 @@ module _ (store : Store) (source_map : SourceMap) (self : Option BindingId) (o :
   module _ (root : ExprId) (start : Spot) where
     pub coroutine_closure_see : (rs : Open) (at : Pointer) (kind : CoroutineKind) (moves : Bool) (xs : Params) (t : tree.OptionType)
         (e : OptionExpr) (i : ExprId) (ms : List Mapping) (w : Where)
-        → Corresponds store source_map rs (tree.coroutine_closure_expr at kind moves xs t e) i ms → At store source_map self o root start i w
+        → Corresponds store source_map rs (tree.coroutine_closure_expr at kind moves xs t e) i ms
+        → At store source_map self o root start i w
         → AllSee store source_map self o root start (in_turn (part e) (naming w (with_each (params_tops xs) w.names)))
     coroutine_closure_see rs at kind moves xs t e i ms w h a =
         let c = h.2 in

@@ -10,7 +10,8 @@ use Rattle.hir_store.specs.declared.ids.ExprId.{ExprId}
 use Rattle.hir_env.specs.ResolvedTree as tree
 use Rattle.hir_env.specs.ResolvedTree.{Expr, OptionExpr}
 use Rattle.spec_data.specs.Tops.{Tops}
-use Rattle.spec_scopes.specs.Placed.{Among, Placed, Sees, Spot, after, after_each, after_form, after_part, block_items, in_scope, inside, past}
+use Rattle.spec_scopes.specs.Placed.{Among, Placed, Sees, Spot, after, after_each, after_form, after_part, block_items, in_scope, inside}
+use Rattle.spec_scopes.specs.Placed.{past}
 use Rattle.spec_scopes.specs.Placed.{placed, placed_each, placed_option, plain_parts}
 use Rattle.spec_scopes.specs.Scopes.{Scopes, binding_scope}
 use Rattle.spec_scoping.specs.Bound.{InScope, with_each}
@@ -41,7 +42,8 @@ among_both c y (p ∷ l) m (inr h) = further (among_both c y l m h)
     further (inl k) = inl (inr k)
     further (inr k) = inr k
 
-pub in_turn_part : (c : OptionExpr) (fs : List Expr) (w : Where) → in_turn (part c ++ fs) w ≡ in_turn (part c) w ++ in_turn fs (behind_part c w)
+pub in_turn_part : (c : OptionExpr) (fs : List Expr) (w : Where) → in_turn (part c ++ fs) w ≡ in_turn (part c) w ++ in_turn fs
+    (behind_part c w)
 in_turn_part tree.no_expr fs w = refl
 in_turn_part (tree.some_expr e) fs w = refl
 
@@ -63,7 +65,8 @@ module _ (store : Store) (source_map : SourceMap) (self : Option BindingId) (o :
   items_same (Some id) ss ns h = h
 
   -- what binds nothing in line
-  pub nothing_behind : (p : ExprId) (is : List ExprId) (ss : Scopes) → BindNothing store is → after_each store (after_part store p) is ss ≡ ss
+  pub nothing_behind : (p : ExprId) (is : List ExprId) (ss : Scopes) → BindNothing store is → after_each store
+      (after_part store p) is ss ≡ ss
   nothing_behind p [] ss h = refl
   nothing_behind p (i ∷ is) ss h = nothing_behind p is (after_part store p i ss) h.1 ∙ part_passed store p i ss (h.0 ss)
 

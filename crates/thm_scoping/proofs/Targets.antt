@@ -36,14 +36,16 @@ use Rattle.thm_body_result.specs.Leads.{Mapping, Mappings, No}
 use Rattle.thm_scoping.specs.Agree.{EachBelow, Orderly, pat_constants}
 use Rattle.thm_scoping.proofs.Operands.{Lined, Plain, each_below_left, each_below_right, ended, lined-append, lined_constants, part_lined}
 use Rattle.thm_scoping.proofs.Operands.{stood}
-use Rattle.thm_scoping.proofs.Patterns.{back_of, below_left, below_more, below_right, bind_is_not_bare, fielded, first_field, first_of, front_of}
+use Rattle.thm_scoping.proofs.Patterns.{back_of, below_left, below_more, below_right, bind_is_not_bare, fielded, first_field, first_of}
+use Rattle.thm_scoping.proofs.Patterns.{front_of}
 use Rattle.thm_scoping.proofs.Patterns.{is_bare, listed, other_fields, others_of, reader, reads_shape, shape_of, some_pat, sub_of}
 
 path_target_is_bare : (q : Option PathRead) (h : HygieneId) → is_bare (path_target_of q h) ≡ true
 path_target_is_bare None h = refl
 path_target_is_bare (Some q) h = refl
 
-literal_is_not_bare : (store : Store) (source_map : SourceMap) (r : Readers) (e : Option StoredExpr) → is_bare (literal_layer store source_map r e) ≡ true → ⊥
+literal_is_not_bare : (store : Store) (source_map : SourceMap) (r : Readers) (e : Option StoredExpr) → is_bare
+    (literal_layer store source_map r e) ≡ true → ⊥
 literal_is_not_bare store source_map r None k = true≢false (sym k)
 literal_is_not_bare store source_map r (Some (hir.Literal l)) k = true≢false (sym k)
 literal_is_not_bare store source_map r (Some e) k = true≢false (sym k)
@@ -89,7 +91,8 @@ module _ (store : Store) (source_map : SourceMap) (self : Option BindingId) (o :
   bare_form n d i (pat.Path p h) r found k = subst (λ l. InLine n l []) (sym (append-nil (path_constants p)))
       (constants n i (pat.Path p h) p found refl)
   bare_form n d i (pat.Bind b sub) r found k =
-      absurd (bind_is_not_bare store source_map o.patterns [] r (binding_found store source_map b) (subpattern_layer store source_map r sub) k)
+      absurd (bind_is_not_bare store source_map o.patterns [] r (binding_found store source_map b)
+      (subpattern_layer store source_map r sub) k)
   bare_form n d i (pat.TupleStruct p ellipsis ps) r found k = absurd (true≢false (sym k))
   bare_form n d i (pat.Tuple ellipsis ps) r found k = absurd (true≢false (sym k))
   bare_form n d i (pat.Record p fs ellipsis) r found k = absurd (true≢false (sym k))
@@ -151,7 +154,8 @@ module _ (store : Store) (source_map : SourceMap) (self : Option BindingId) (o :
       (λ c lower shape under. rec c h.1 ms lower under (subst (λ l. S l ms) (sym h.4) h.5) (ap listed shape))
 
   struct_target : (S : List PatId → Mappings) (q : Option PathRead) (n d : ℕ) (i : PatId) (ms : List Mapping) → i.0 < d
-      → WherePath (option_map data_of q) (λ p ws. (path : Path) × CorrespondsTuple store source_map (λ dots is. pat.TupleStruct path dots is)
+      → WherePath (option_map data_of q) (λ p ws. (path : Path) × CorrespondsTuple store source_map
+      (λ dots is. pat.TupleStruct path dots is)
       false S i ws) No ms
       → (from at : Option Pointer) (ellipsis : Option ℕ) (D : PatsData) (es : List Expr)
       → (read d).pat i ≡ if_path q (λ p. pat_at from (datum.tuple_struct_pattern p ellipsis D)) (pat_at at datum.missing_pattern)
@@ -175,7 +179,8 @@ module _ (store : Store) (source_map : SourceMap) (self : Option BindingId) (o :
       → (from at : Option Pointer) (D : PatFieldsData) (es : List Expr)
       → (read d).pat i ≡ if_path q (λ p. pat_at from (datum.record_pattern p D dots)) (pat_at at datum.missing_pattern)
       → EachBelow n (exprs_to d i)
-      → ((c : ℕ) (is : List RecordFieldPat) (ns : List Mapping) → AllBelow c (map field_pat is) → EachBelow n (exprs_each c (map field_pat is))
+      → ((c : ℕ) (is : List RecordFieldPat) (ns : List Mapping) → AllBelow c (map field_pat is) → EachBelow n
+      (exprs_each c (map field_pat is))
       → F is ns → pattern_fields_layer store source_map (read c) is ≡ D → InLine n (exprs_each c (map field_pat is)) es)
       → InLine n (exprs_to d i) (if_path q (λ _. es) [])
   record_target F None n d i ms dots less h from at D es e below rec = bare_target n d i (pat_at at datum.missing_pattern) less e refl
@@ -212,10 +217,12 @@ module _ (store : Store) (source_map : SourceMap) (self : Option BindingId) (o :
     target_in_line (tree.path_target at p hygiene) rs n d i ms less h e below =
         bare_target n d i _ less e (path_target_is_bare (path_of (tree.some_path p)) hygiene)
     target_in_line (tree.tuple_target at ts) rs n d i ms less h e below =
-        tuple_target (λ is. CorrespondsTargets store source_map rs ts is) n d i ms less h (Some (source_of at)) (target_dots ts) (targets_data ts) (places_of_each ts) e below
+        tuple_target (λ is. CorrespondsTargets store source_map rs ts is) n d i ms less h (Some (source_of at)) (target_dots ts)
+        (targets_data ts) (places_of_each ts) e below
         (λ c is ns lower under k reads. targets_in_line ts rs n c is ns lower under k reads)
     target_in_line (tree.call_target at p ts) rs n d i ms less h e below =
-        struct_target (λ is. CorrespondsTargets store source_map rs ts is) (path_of p) n d i h.right less h.second (Some (source_of at)) at.call
+        struct_target (λ is. CorrespondsTargets store source_map rs ts is) (path_of p) n d i h.right less h.second
+        (Some (source_of at)) at.call
         (target_dots ts) (targets_data ts) (places_of_each ts) e below
         (λ c is ns lower under k reads. targets_in_line ts rs n c is ns lower under k reads)
     target_in_line (tree.array_target at before dots behind) rs n d i ms less h e below =
@@ -237,12 +244,14 @@ module _ (store : Store) (source_map : SourceMap) (self : Option BindingId) (o :
         (targets_in_line behind rs n c h.2 h.4.right (below_right c (option_to_list h.1) h.2 others)
         (each_below_right n (exprs_each c (option_to_list h.1)) (exprs_each c h.2) later) h.4.second (ap back_of shape))))))
     target_in_line (tree.record_target at p fs dots spread) rs n d i ms less h e below =
-        record_target (λ is. CorrespondsTargetFields store source_map rs fs is) (path_of p) n d i h.right dots less h.second (Some (source_of at))
+        record_target (λ is. CorrespondsTargetFields store source_map rs fs is) (path_of p) n d i h.right dots less h.second
+        (Some (source_of at))
         at.call (target_fields_data fs) (places_of_fields fs) e below
         (λ c is ns lower under k reads. fields_in_line fs rs n c is ns lower under k reads)
 
     targets_in_line : (ts : Targets) (rs : Open) (n d : ℕ) (is : List PatId) (ms : List Mapping) → AllBelow d is
-        → EachBelow n (exprs_each d is) → CorrespondsTargets store source_map rs ts is ms → patterns_layer store source_map (read d) is ≡ targets_data ts
+        → EachBelow n (exprs_each d is) → CorrespondsTargets store source_map rs ts is ms → patterns_layer store source_map
+        (read d) is ≡ targets_data ts
         → InLine n (exprs_each d is) (places_of_each ts)
     targets_in_line tree.no_targets rs n d is ms below under h e = none_in_line n d is h.0
     targets_in_line (tree.more_targets t ts) rs n d is ms below under h e =
@@ -254,9 +263,11 @@ module _ (store : Store) (source_map : SourceMap) (self : Option BindingId) (o :
     targets_in_line (tree.dots_targets ts) rs n d is ms below under h e = targets_in_line ts rs n d is ms below under h e
     targets_in_line (tree.tracked_targets called ts) rs n d is ms below under h e = targets_in_line ts rs n d is ms below under h e
 
-    fields_in_line : (fs : TargetFields) (rs : Open) (n d : ℕ) (is : List RecordFieldPat) (ms : List Mapping) → AllBelow d (map field_pat is)
+    fields_in_line : (fs : TargetFields) (rs : Open) (n d : ℕ) (is : List RecordFieldPat) (ms : List Mapping) → AllBelow d
+        (map field_pat is)
         → EachBelow n (exprs_each d (map field_pat is)) → CorrespondsTargetFields store source_map rs fs is ms
-        → pattern_fields_layer store source_map (read d) is ≡ target_fields_data fs → InLine n (exprs_each d (map field_pat is)) (places_of_fields fs)
+        → pattern_fields_layer store source_map (read d) is ≡ target_fields_data fs → InLine n (exprs_each d (map field_pat is))
+        (places_of_fields fs)
     fields_in_line tree.no_target_fields rs n d is ms below under h e = none_in_line n d (map field_pat is) (ap (λ l. map field_pat l) h.0)
     fields_in_line (tree.more_target_fields (tree.target_field at None t) fs) rs n d is ms below under h e =
         fields_in_line fs rs n d is h.1.right below under h.1.second e

@@ -48,7 +48,8 @@ module _ (store : Store) (source_map : SourceMap) (self : Option BindingId) (o :
       → WithNames store source_map p (λ ks. CorrespondsPatPart store source_map ks rs p [] q) q ms
       → (below : List (Rib BindingId)) (ns : InScope) → SameRibs store source_map self below ns
       → SameRibs store source_map self (binding_ribs store (bindings_in store q) ++ below) (with_top p ns)
-  same_top rs p q ms there h below ns same = same_pairs store source_map self p q h.0 (bindings_in store q) (names_of_part p []) below ns h.1
+  same_top rs p q ms there h below ns same = same_pairs store source_map self p q h.0 (bindings_in store q)
+      (names_of_part p []) below ns h.1
       (top_pairs h.0 rs p q ms there h.1 h.2) same
 
   pub ribs-append : (as' bs : List BindingId) → binding_ribs store (as' ++ bs) ≡ binding_ribs store as' ++ binding_ribs store bs
@@ -62,7 +63,8 @@ module _ (store : Store) (source_map : SourceMap) (self : Option BindingId) (o :
       → (below : List (Rib BindingId)) (ns : InScope) → SameRibs store source_map self below ns
       → SameRibs store source_map self (binding_ribs store (flat_map (bindings_in store) l.0) ++ below) (with_tops (params_tops xs) ns)
   same_params rs tree.no_params l ms there h below ns same = subst
-      (λ (k : StoredParams). SameRibs store source_map self (binding_ribs store (flat_map (bindings_in store) k.0) ++ below) ns) (sym h.0) same
+      (λ (k : StoredParams). SameRibs store source_map self (binding_ribs store (flat_map (bindings_in store) k.0) ++ below) ns)
+      (sym h.0) same
   same_params rs (tree.more_params (tree.disabled_param at by x) xs) l ms there h below ns same =
       same_params rs xs l ms there h below ns same
   same_params rs (tree.more_params (tree.param p t) xs) l ms there h below ns same =
@@ -99,7 +101,8 @@ module _ (store : Store) (source_map : SourceMap) (self : Option BindingId) (o :
       (same_generated store source_map self n _ b below ns same))
 
   -- a pattern of an item that holds another one
-  pub inside_item : (path : Path) (q p : PatId) → slice_get store.pats q.0 ≡ Some (pat.TupleStruct path None (p ∷ [])) → q.0 < length store.pats
+  pub inside_item : (path : Path) (q p : PatId) → slice_get store.pats q.0 ≡ Some (pat.TupleStruct path None (p ∷ []))
+      → q.0 < length store.pats
       → (p.0 < length store.pats) × (bindings_in store q ≡ bindings_in store p)
   inside_item path q p found there =
       let lower = o.patterns q (pat.TupleStruct path None (p ∷ [])) found in

@@ -1,5 +1,5 @@
 -- What a stored expression sees is what the written one does.
-use Rattle.std.specs.Prelude.{◌≡◌, ◌≤◌, ◌<◌, ℕ, suc, List, [], ◌∷◌, length, slice_get, Option, Some, None}
+use Rattle.std.specs.Prelude.{◌≡◌, ◌≤◌, ◌<◌, Bool, ℕ, suc, List, [], ◌∷◌, length, slice_get, Option, Some, None}
 use Rattle.hir_store.specs.Children.{children}
 use Rattle.hir_store.specs.Stored.{Store, SourceMap}
 use Rattle.hir_store.specs.declared.hir.Expr.{Expr as StoredExpr}
@@ -39,7 +39,8 @@ module _ (store : Store) where
   BindNothing [] = Unit {0}
   BindNothing (c ∷ cs) = ((ss : Scopes) → after store c ss ≡ ss) × BindNothing cs
 
-  -- Each entry names only entries that are there, and of its own kind only earlier ones. Each pattern is inside another one in one way, and no
+  -- Each entry names only entries that are there, and of its own kind only earlier ones. Each pattern is inside another one in one way,
+  -- and no
   -- constant among arguments is a `let`.
   pub record Orderly : Type 0 where
     pub parts : (e : ExprId) (f : StoredExpr) → slice_get store.exprs e.0 ≡ Some f → EachBelow e.0 (children f)

@@ -6,13 +6,11 @@ ghost use Rattle.thm_scoping.specs.Agree.{BodiesAgree, ScopesAgree};
 
 /// Each expression that stands anywhere in a written body has its stored one, and where that stands each name means the binding that it
 /// means in the text, or none where it means none there. This is so where the names around the two bodies mean the same.
-#[tactic(auto, using(crate::proofs::Agreement::scopes_agree))]
 pub fn scopes_agree()
     ensures { ScopesAgree }
 {}
 
 /// So it is of a lowered function without `async` and `gen`, from its parameters on.
-#[tactic(auto, using(crate::proofs::Bodies::bodies_agree))]
 pub fn bodies_agree()
     ensures { BodiesAgree }
 {}
