@@ -1,0 +1,3 @@
+pub mod Bound
+pub mod Scoping
+pub mod Examples

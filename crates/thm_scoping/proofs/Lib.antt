@@ -1,0 +1,17 @@
+pub mod Keeping
+pub mod Patterns
+pub mod Afters
+pub mod Operands
+pub mod Tops
+pub mod Plain
+pub mod Targets
+pub mod Behind
+pub mod Steps
+pub mod Contents
+pub mod Forms
+pub mod Fors
+pub mod Lets
+pub mod Hits
+pub mod Preludes
+pub mod Agreement
+pub mod Bodies
