@@ -3,7 +3,8 @@
 A form becomes a `Form`, a path a `Path`. Types, arguments and bounds are tuples that begin with a word:
 
     types       never, error, infer · tuple TYPES · path PATH · param TEXT · pointer WORD TYPE · reference LIFETIME MUT TYPE
-                slice TYPE · array TYPE FORM · function BINDER UNSAFE ABI PARAMETERS VARIADIC TYPE · impl BOUNDS · dyn BOUNDS · pattern TYPE FORM
+                slice TYPE · array TYPE FORM · function BINDER UNSAFE ABI PARAMETERS VARIADIC TYPE · impl BOUNDS · dyn BOUNDS
+                pattern TYPE FORM
     arguments   self TYPE · type TYPE · lifetime TEXT · const FORM · binding NAME ARGUMENTS TYPE BOUNDS
     bounds      error · lifetime TEXT · use TEXTS · path MAYBE BINDER PATH
 """

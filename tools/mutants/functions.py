@@ -92,7 +92,8 @@ class Function:
         modules, path = module_path(self.file), name.split("::")
         if self.name or path[-1] != self.word:
             return self.name == name
-        return " for " not in self.block and self.block.startswith("impl") or path[: len(modules)] == modules and len(path) > len(modules) + 1
+        of_a_type = " for " not in self.block and self.block.startswith("impl")
+        return of_a_type or path[: len(modules)] == modules and len(path) > len(modules) + 1
 
     def types(self):
         """The types that its block of a trait's methods is for."""

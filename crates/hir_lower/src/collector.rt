@@ -554,7 +554,7 @@ impl<'db, E: LowerEnv> ExprCollector<'db, E> {
     /// is that of one of the trees that were lowered, or of a type that an `impl` became, as the call of it says. A node of a type or of a
     /// lifetime leads to one, and no other node leads to a lifetime. Each number is in range, each binding has the patterns that make it,
     /// and no name is made up twice, except for those that the parameters of a closure with `async` or `gen` are handed in by.
-    #[tactic(auto, using(crate::proofs::GeneratedNames::once_of, crate::proofs::Meanings::definitions_of, crate::proofs::OneStore::calls_of))]
+    #[tactic(auto, using(crate::proofs::FinishedStore::finished_store))]
     pub fn into_store(self) -> Result<(ExpressionStore, ExpressionStoreSourceMap), LowerError>
         ensures failed { self.entry.failed ≡ true → result ≡ Err LowerError.Failed }
         ensures works { self.entry.failed ≡ false

@@ -102,6 +102,8 @@ differ n m h = grind (arith, nat_tests)
 pub known_counted : (n count : ℕ) → n < count → count_with n count ≡ count
 known_counted n count h = ap (λ b. if b then count + 1 else count) (differ n count h)
 
+pub ruleset known_names = (found_exists, known_counted)
+
 pub next_counted : (count : ℕ) → count_with count count ≡ count + 1
 next_counted count = ap (λ b. if b then count + 1 else count) (eq-eqb count count refl)
 
@@ -117,6 +119,8 @@ drop_none [] zero h = refl
 drop_none [] (suc n) h = refl
 drop_none (y ∷ xs) zero h = cc
 drop_none (y ∷ xs) (suc n) h = drop_none xs n h
+
+pub ruleset dropped_entries = (drop_entry, drop_none)
 
 none_after : {A : Type 0} (xs : List A) (n : ℕ) → slice_get xs n ≡ None → slice_get xs (suc n) ≡ None
 none_after [] n h = refl

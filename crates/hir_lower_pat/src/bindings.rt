@@ -99,7 +99,7 @@ impl Bindings {
     }
 
     /// The binding of a name, made where this is its first use.
-    #[tactic(auto, using(crate::proofs::NameLemmas::found_exists, crate::proofs::NameLemmas::known_counted), unfolding(hir_lower_builder::specs::Pats::use_name))]
+    #[tactic(auto, using(crate::proofs::NameLemmas::known_names), unfolding(hir_lower_builder::specs::Pats::use_name))]
     pub fn use_name<I: StoreSink>(
         &mut self,
         state: &mut BodyBuilder<I>,
@@ -156,7 +156,7 @@ impl Bindings {
     }
 
     /// Writes the problem that each binding shows. It takes no memory.
-    #[tactic(auto, using(crate::proofs::NameLemmas::drop_entry, crate::proofs::NameLemmas::drop_none), unfolding(hir_lower_builder::specs::Pats::settle))]
+    #[tactic(auto, using(crate::proofs::NameLemmas::dropped_entries), unfolding(hir_lower_builder::specs::Pats::settle))]
     pub fn settle<I: StoreSink>(&self, state: &mut BodyBuilder<I>)
         requires { HasNames state.old.stored self.now }
         ensures { Lowers HasNone (spec.settle (table_of self.now)) state.old (Ok tt) state.new }

@@ -73,6 +73,8 @@ pub as_bare : (o : OptionPath) (p : HirPath) (old new : Builder) → LowersPath 
     → is_bare (names_in p) ≡ is_bare (mod_path_of o)
 as_bare o p old new h = ap is_bare (lowered_names o old new (Some p) h.0)
 
+pub ruleset bare_roots = (root_has, as_bare)
+
 -- the steps of one segment
 
 abbrev alone : Bool → Segment → Path

@@ -86,7 +86,7 @@ fn if_read(
 }
 
 /// `<T as Trait>`, which stands for the names of the trait.
-#[tactic(auto, using(crate::proofs::Rooted::root_has, crate::proofs::Rooted::as_bare), unfolding(hir_lower_builder::specs::Paths::with_trait))]
+#[tactic(auto, using(crate::proofs::Rooted::bare_roots), unfolding(hir_lower_builder::specs::Paths::with_trait))]
 #[inline(never)]
 fn local_trait<I: StoreSink, P: LowerExprs<I>>(
     lowerer: &Lowerer<P>,

@@ -65,7 +65,7 @@ module _ (a b : Answers) where
   of_entry (asked.Skip d x) q h k is = one_of (questions (asked.Skip d x)) q (one_alike (asked.Skip d x) h k) is
   of_entry (asked.Container d x) q h k is = one_of (questions (asked.Container d x)) q (one_alike (asked.Container d x) h k) is
   of_entry (asked.ModuleOf c x) q h k is = one_of (questions (asked.ModuleOf c x)) q (one_alike (asked.ModuleOf c x) h k) is
-  of_entry (asked.Resolve m path s x) q h k is = one_of (questions (asked.Resolve m path s x)) q (one_alike (asked.Resolve m path s x) h k) is
+  of_entry (asked.Resolve m p s x) q h k is = one_of (questions (asked.Resolve m p s x)) q (one_alike (asked.Resolve m p s x) h k) is
   of_entry (asked.Alias n x) q h k is = one_of (questions (asked.Alias n x)) q (one_alike (asked.Alias n x) h k) is
   of_entry (asked.LangItems x) q h k is = one_of (questions (asked.LangItems x)) q (one_alike (asked.LangItems x) h k) is
   of_entry (asked.NewRange m x) q h k is = one_of (questions (asked.NewRange m x)) q (one_alike (asked.NewRange m x) h k) is

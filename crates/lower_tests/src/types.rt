@@ -117,8 +117,8 @@ fn an_absent_type_has_no_node(rt: HostRuntime) {
     assert!(rt; said_of(rt.alloc(), Root::Path, EMPTY, &AbsentType) == Said::Own);
 }
 
-/// Types of one store, as those of a struct's fields: `impl B` as an error and as it stands, each behind the path of its bound, and one that
-/// is absent.
+/// Types of one store, as those of a struct's fields: `impl B` as an error and as it stands, each behind the path of its bound, and one
+/// that is absent.
 #[test]
 fn types_are_lowered_one_after_another(rt: HostRuntime) {
     let alloc = rt.alloc();

@@ -42,7 +42,8 @@ pub all_there : {a : Answers} (area : NodeArea a) (f : HirFileId) → ((id : Nod
 all_there area f h [] = tt
 all_there area f h (n ∷ ns) = (h n, all_there area f h ns)
 
-pub all_in : {a : Answers} (area : NodeArea a) (qs rs : List Question) → AllInNodes area qs → AllInNodes area rs → AllInNodes area (qs ++ rs)
+pub all_in : {a : Answers} (area : NodeArea a) (qs rs : List Question) → AllInNodes area qs → AllInNodes area rs
+    → AllInNodes area (qs ++ rs)
 all_in area [] rs h k = k
 all_in area (q ∷ qs) rs h k = (h.0, all_in area qs rs h.1 k)
 

@@ -5,8 +5,8 @@
 ghost use Rattle.thm_questions.specs.Forms.{AssignmentAsks, BlockAsks, EnteredCallAsks, ForAsks, LimitedCallAsks, LiteralAsks};
 ghost use Rattle.thm_questions.specs.Forms.{DollarCrateAsks, PathAloneAsks, PathAsks, PlainNameAsks, QuestionAsks, UnresolvedCallAsks};
 ghost use Rattle.thm_questions.specs.Theorems.{BodiesByList, BodiesKeepNodes, ExprsAtNodes, ExprsByList, ExprsInFiles, ExprsKeepNodes};
-ghost use Rattle.thm_questions.specs.Theorems.{ListsKeepNodes, PathsAtNodes, PathsByList, PathsInFiles, PathsKeepNodes, PatsAtNodes, PatsByList};
-ghost use Rattle.thm_questions.specs.Theorems.{PatsInFiles};
+ghost use Rattle.thm_questions.specs.Theorems.{ListsKeepNodes, PathsAtNodes, PathsByList, PathsInFiles, PathsKeepNodes, PatsAtNodes};
+ghost use Rattle.thm_questions.specs.Theorems.{PatsByList, PatsInFiles};
 ghost use Rattle.thm_questions.specs.Theorems.{PatsKeepNodes, TypesAtNodes, TypesByList, TypesInFiles, TypesKeepNodes};
 
 /// Two environments that answer alike what one of them is asked by the list of a tree read it as the same resolved tree.
@@ -32,8 +32,8 @@ pub fn at_nodes()
 {}
 
 /// An environment that answers alike every question about the nodes of a tree and of what its calls stand for, every one that is asked in
-/// its modules, and those of a list that are about no node and in no module, answers the list alike and reads the same; so it is with a body
-/// and its parameters.
+/// its modules, and those of a list that are about no node and in no module, answers the list alike and reads the same. The same holds of a
+/// body and its parameters.
 pub fn keep_nodes()
     ensures lists { ListsKeepNodes }
     ensures types { TypesKeepNodes }

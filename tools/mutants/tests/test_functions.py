@@ -65,10 +65,11 @@ class CrateFunctions(SmallCrate):
         self.functions()
         whole = self.all_functions()
         called = {it: [of.word for of in whole.called(it)] for it in (
-            "second", "inner::second", "inner::pairs::Pair::go", "inner::pairs::go", "inner::pairs::PairOther::other", "inner::PairOther::other",
-            "other",
+            "second", "inner::second", "inner::pairs::Pair::go", "inner::pairs::go",
+            "inner::pairs::PairOther::other", "inner::PairOther::other", "other",
         )}
-        self.assertEqual({it for it, found in called.items() if found}, {"second", "inner::pairs::Pair::go", "inner::pairs::PairOther::other"})
+        known = {it for it, found in called.items() if found}
+        self.assertEqual(known, {"second", "inner::pairs::Pair::go", "inner::pairs::PairOther::other"})
 
     def test_what_can_be_emptied(self):
         can = {word for word, it in self.functions().items() if it.can_be_emptied()}

@@ -69,8 +69,8 @@ impl<'db, E: LowerEnv> ExprCollector<'db, E> {
     /// pointer. The caller says what an `impl Trait` in it becomes.
     ///
     /// - `Ok`: the stored type decodes to the written one (`data`), and its nested bodies are trace-equivalent. What was added is what the
-    ///   type requires (`rooted`, `names`), and it fits (`fits`). The side output grows by the parameters that an `impl Trait` becomes, with
-    ///   their predicates, and by the lifetimes that the type names (`tracked`).
+    ///   type requires (`rooted`, `names`), and it fits (`fits`). The side output grows by the parameters that an `impl Trait` becomes,
+    ///   with their predicates, and by the lifetimes that the type names (`tracked`).
     /// - `Full`: the type requires more than is left in an arena, or overflows a counter of 32 bits (`too_large`).
     /// - `Memory`: an allocation was refused.
     /// - `Failed`: an earlier call returned an error. Nothing changes (`calls`).
