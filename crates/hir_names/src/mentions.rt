@@ -1,0 +1,66 @@
+//! The expressions of a store that are names.
+
+ghost use Rattle.std.specs.Prelude.{◌≡◌, ℕ, IfOk, IsSome, slice_get};
+ghost use Rattle.std.specs.List.{Contains};
+ghost use Rattle.std.specs.Option.{option_copied};
+ghost use Rattle.hir_names.specs.Reads.{Reads, name_in};
+ghost use Rattle.hir_store.specs.declared.ids.ExprId.{ExprId as Expr};
+
+use crate::order::{number_at, places};
+use hir_scopes::scope::ExprScopes;
+use hir_store::hir::Expr;
+use hir_store::ids::ExprId;
+use hir_store::name::Name;
+use hir_store::path::Path;
+use hir_store::store::ExpressionStore;
+use hir_walks::path::as_ident;
+use std::alloc::{AllocError, Global};
+
+/// The name that the expression is, if it is a path of one plain segment.
+pub(crate) fn name_read(store: &ExpressionStore, expr: ExprId) -> Option<&Name>
+    ensures { option_copied result ≡ name_in (slice_get store.now.exprs expr.0) }
+{
+    match store.expr(expr) {
+        Some(
+            Expr::Path {
+                path: Path::BarePath(path),
+                ..
+            },
+        ) => as_ident(path),
+        _ => None,
+    }
+}
+
+/// The place of the scope that a name stands in; none if the expression is no name, or has no scope.
+fn place_of(
+    store: &ExpressionStore,
+    scopes: &ExprScopes,
+    places: &[u32],
+    expr: ExprId,
+) -> Option<u32>
+    ensures { Reads store.now scopes.now expr → IsSome result }
+{
+    name_read(store, expr)?;
+    let scope = scopes.scope_for(expr)?;
+    Some(number_at(places, scope.0 as usize))
+}
+
+/// All names that have a scope, each behind the place of that scope, in the order of these places.
+pub(crate) fn names_in_order(
+    alloc: Global,
+    store: &ExpressionStore,
+    scopes: &ExprScopes,
+) -> Result<Vec<(u32, ExprId)>, AllocError>
+    ensures { IfOk result (λ rs. (e : Expr) → Reads store.now scopes.now e → (place : ℕ) × Contains rs.items (place, e)) }
+{
+    let places = places(alloc, scopes)?;
+    let mut names = Vec::new(alloc);
+    for number in 0..store.exprs_len() {
+        let expr = ExprId(number);
+        if let Some(place) = place_of(store, scopes, places.as_slice(), expr) {
+            names.push((place, expr))?;
+        }
+    }
+    names.sort_unstable();
+    Ok(names)
+}
