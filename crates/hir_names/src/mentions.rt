@@ -4,7 +4,7 @@ ghost use Rattle.std.specs.Prelude.{◌≡◌, ℕ, IfOk, IsSome, slice_get};
 ghost use Rattle.std.specs.List.{Contains};
 ghost use Rattle.std.specs.Option.{option_copied};
 ghost use Rattle.hir_names.specs.Reads.{Reads, name_in};
-ghost use Rattle.hir_store.specs.declared.ids.ExprId.{ExprId as Expr};
+ghost use Rattle.hir_store.specs.declared.ids.ExprId.{ExprId as Id};
 
 use crate::order::{number_at, places};
 use hir_scopes::scope::ExprScopes;
@@ -45,21 +45,38 @@ fn place_of(
     Some(number_at(places, scope.0 as usize))
 }
 
+/// Adds an expression, behind the place of its scope, if it is a name that has one.
+fn add_name(
+    store: &ExpressionStore,
+    scopes: &ExprScopes,
+    places: &[u32],
+    names: &mut Vec<(u32, ExprId)>,
+    expr: ExprId,
+) -> Result<(), AllocError>
+    ensures kept { IfOk result (λ _. (r : ℕ × Id) → Contains names.old.items r → Contains names.new.items r) }
+    ensures added { IfOk result (λ _. Reads store.now scopes.now expr → (place : ℕ) × Contains names.new.items (place, expr)) }
+{
+    match place_of(store, scopes, places, expr) {
+        None => Ok(()),
+        Some(place) => {
+            names.push((place, expr))?;
+            Ok(())
+        }
+    }
+}
+
 /// All names that have a scope, each behind the place of that scope, in the order of these places.
 pub(crate) fn names_in_order(
     alloc: Global,
     store: &ExpressionStore,
     scopes: &ExprScopes,
 ) -> Result<Vec<(u32, ExprId)>, AllocError>
-    ensures { IfOk result (λ rs. (e : Expr) → Reads store.now scopes.now e → (place : ℕ) × Contains rs.items (place, e)) }
+    ensures { IfOk result (λ rs. (e : Id) → Reads store.now scopes.now e → (place : ℕ) × Contains rs.items (place, e)) }
 {
     let places = places(alloc, scopes)?;
     let mut names = Vec::new(alloc);
     for number in 0..store.exprs_len() {
-        let expr = ExprId(number);
-        if let Some(place) = place_of(store, scopes, places.as_slice(), expr) {
-            names.push((place, expr))?;
-        }
+        add_name(store, scopes, places.as_slice(), &mut names, ExprId(number))?;
     }
     names.sort_unstable();
     Ok(names)

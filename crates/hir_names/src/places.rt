@@ -1,20 +1,52 @@
 //! How a walk goes from one scope to another one.
 
-ghost use Rattle.std.specs.Prelude.{◌≡◌, ◌<◌, ◌+◌, ◌++◌, List, Option, IfOk, None, false, true};
+ghost use Rattle.std.specs.Prelude.{◌≡◌, ◌<◌, ◌+◌, ◌++◌, List, MatchOption, Option, IfOk, Some, slice_get};
 ghost use Rattle.std.specs.List.{flat_map};
 ghost use Rattle.hir_lower_scope.specs.ScopeRibs.{Rib};
-ghost use Rattle.hir_names.specs.Walk.{IsInScope, Leads, macro_ribs, own_ribs};
-ghost use Rattle.hir_names.specs.Walk.{how_far as spec_how_far};
+ghost use Rattle.hir_names.specs.Steps.{IsStep};
+ghost use Rattle.hir_names.specs.Walk.{IsInScope, Leads, how_far, macro_ribs, own_ribs};
+ghost use Rattle.hir_scopes.specs.Bounds.{IsBefore};
 ghost use Rattle.hir_scopes.specs.declared.scope.ScopeId.{ScopeId as Scope};
+ghost use Rattle.hir_store.specs.Stored.{Store};
 ghost use Rattle.hir_store.specs.declared.ids.BindingId.{BindingId as Id};
-ghost use Rattle.spec_scopes.specs.Scopes.{binding_ribs};
+ghost use Rattle.spec_scopes.specs.Scopes.{binding_rib, binding_ribs};
 
+use crate::lists::{first_binding, last_binding};
 use crate::stacks::NameStacks;
 use hir_base::Seq;
 use hir_scopes::scope::{ExprScopes, ScopeId};
 use hir_store::ids::{BindingId, MacroDefId};
 use hir_store::store::ExpressionStore;
 use std::alloc::{AllocError, Global};
+
+/// Brings a binding in scope, if the store has it.
+#[tactic(auto, using(crate::proofs::PlaceLemmas::entered_binding, crate::proofs::PlaceLemmas::no_binding_entered))]
+fn enter_binding(
+    store: &ExpressionStore,
+    stacks: &mut NameStacks,
+    id: BindingId,
+) -> Result<(), AllocError>
+    ensures { IfOk result (λ _. stacks.new ≡ binding_rib store.now id (slice_get store.now.bindings id.0) ++ stacks.old) }
+{
+    match store.binding(id) {
+        None => Ok(()),
+        Some(binding) => {
+            stacks.enter_binding(id, binding)?;
+            Ok(())
+        }
+    }
+}
+
+/// Leaves a binding, if the store has it.
+#[tactic(auto, using(crate::proofs::PlaceLemmas::binding_left, crate::proofs::PlaceLemmas::no_binding_left))]
+fn leave_binding(store: &ExpressionStore, stacks: &mut NameStacks, id: BindingId)
+    ensures { (rs : List (Rib Id)) → binding_rib store.now id (slice_get store.now.bindings id.0) ++ rs ≡ stacks.old → stacks.new ≡ rs }
+{
+    match store.binding(id) {
+        None => {}
+        Some(_) => stacks.leave(),
+    }
+}
 
 /// Brings these bindings in scope, the last one first: the first is then the innermost.
 fn enter_bindings(
@@ -24,11 +56,9 @@ fn enter_bindings(
 ) -> Result<(), AllocError>
     ensures { IfOk result (λ _. stacks.new ≡ binding_ribs store.now left.entry.now ++ stacks.old) }
 {
-    while let [rest @ .., id] = left {
-        if let Some(binding) = store.binding(*id) {
-            stacks.enter_binding(*id, binding)?;
-        }
-        left = rest;
+    while let Some(split) = last_binding(left) {
+        enter_binding(store, stacks, split.0)?;
+        left = split.1;
     }
     Ok(())
 }
@@ -37,11 +67,9 @@ fn enter_bindings(
 fn leave_bindings(store: &ExpressionStore, stacks: &mut NameStacks, mut left: &[BindingId])
     ensures { (rs : List (Rib Id)) → binding_ribs store.now left.entry.now ++ rs ≡ stacks.old → stacks.new ≡ rs }
 {
-    while let [id, rest @ ..] = left {
-        if let Some(_) = store.binding(*id) {
-            stacks.leave();
-        }
-        left = rest;
+    while let Some(split) = first_binding(left) {
+        leave_binding(store, stacks, split.0);
+        left = split.1;
     }
 }
 
@@ -97,61 +125,99 @@ struct Ends {
     there: Option<ScopeId>,
 }
 
-/// Whether the two are one.
-fn is_met(ends: Ends) -> bool
-    ensures met { result ≡ true → ends.here ≡ ends.there }
-    ensures apart { result ≡ false → ends.here ≡ None → ends.there ≡ None → ⊥ }
+/// A step outward: the scope where the walk stands is left, or the other one is put on the way.
+#[derive(Clone, Copy)]
+enum Step {
+    Out(ScopeId),
+    OnWay(ScopeId),
+}
+
+/// Of two scopes the step from the one with the greater id; none if the two are one.
+fn later_one(here: ScopeId, there: ScopeId) -> Option<Step>
+    ensures { MatchOption result (here ≡ there) (λ s. IsStep (record { here = Some here; there = Some there }) s) }
+{
+    if here == there {
+        None
+    } else if here.0 < there.0 {
+        Some(Step::OnWay(there))
+    } else {
+        Some(Step::Out(here))
+    }
+}
+
+/// The next step, from the scope that was opened later; none if the two are one.
+fn next_step(ends: Ends) -> Option<Step>
+    ensures { MatchOption result (ends.here ≡ ends.there) (λ s. IsStep ends s) }
 {
     match (ends.here, ends.there) {
-        (None, None) => true,
-        (Some(here), Some(there)) => here == there,
-        _ => false,
+        (None, None) => None,
+        (Some(here), None) => Some(Step::Out(here)),
+        (None, Some(there)) => Some(Step::OnWay(there)),
+        (Some(here), Some(there)) => later_one(here, there),
     }
 }
 
-/// One more than the id, which scopes have in the order in which they are opened; 0 outside of all.
-fn how_far(scope: Option<ScopeId>) -> u64
-    ensures { result ≡ spec_how_far scope }
+/// Leaves this scope. Returns the one around it.
+fn go_out(
+    store: &ExpressionStore,
+    scopes: &ExprScopes,
+    stacks: &mut NameStacks,
+    here: ScopeId,
+) -> Option<ScopeId>
+    requires { IsInScope store.now scopes.now (Some here) stacks.old }
+    ensures here { IsInScope store.now scopes.now result stacks.new }
+    ensures before { IsBefore result here.0 }
 {
-    match scope {
-        None => 0,
-        Some(scope) => scope.0 as u64 + 1,
-    }
+    leave_scope(store, scopes, stacks, here);
+    scopes.parent(here)
 }
 
-/// One step outward: of the two scopes the one with the greater id is left, which is either the one where the walk stands or one that it
-/// is to enter.
-fn step(
+/// Puts this scope on the way. Returns the one around it.
+fn put_on_way(
+    scopes: &ExprScopes,
+    way: &mut Seq<ScopeId>,
+    there: ScopeId,
+) -> Result<Option<ScopeId>, AllocError>
+    ensures way { IfOk result (λ r. (store : Store) (to : Option Scope) → Leads store scopes.now to (Some there) way.old
+        → Leads store scopes.now to r way.new) }
+    ensures before { IfOk result (λ r. IsBefore r there.0) }
+{
+    way.push(there)?;
+    Ok(scopes.parent(there))
+}
+
+/// Goes one step.
+fn take_step(
     store: &ExpressionStore,
     scopes: &ExprScopes,
     stacks: &mut NameStacks,
     way: &mut Seq<ScopeId>,
     ends: Ends,
+    step: Step,
 ) -> Result<Ends, AllocError>
-    requires apart { ends.here ≡ None → ends.there ≡ None → ⊥ }
+    requires step { IsStep ends step }
     requires here { IsInScope store.now scopes.now ends.here stacks.old }
     ensures here { IfOk result (λ r. IsInScope store.now scopes.now r.here stacks.new) }
     ensures way { IfOk result (λ r. (to : Option Scope) → Leads store.now scopes.now to ends.there way.old
         → Leads store.now scopes.now to r.there way.new) }
-    ensures nearer { IfOk result (λ r. spec_how_far r.here + spec_how_far r.there < spec_how_far ends.here + spec_how_far ends.there) }
+    ensures nearer { IfOk result (λ r. how_far r.here + how_far r.there < how_far ends.here + how_far ends.there) }
 {
-    if let Some(here) = ends.here {
-        if how_far(ends.there) <= here.0 as u64 {
-            leave_scope(store, scopes, stacks, here);
-            return Ok(Ends {
-                here: scopes.parent(here),
+    match step {
+        Step::Out(here) => {
+            let outer = go_out(store, scopes, stacks, here);
+            Ok(Ends {
+                here: outer,
                 there: ends.there,
-            });
+            })
+        }
+        Step::OnWay(there) => {
+            let outer = put_on_way(scopes, way, there)?;
+            Ok(Ends {
+                here: ends.here,
+                there: outer,
+            })
         }
     }
-    if let Some(there) = ends.there {
-        way.push(there)?;
-        return Ok(Ends {
-            here: ends.here,
-            there: scopes.parent(there),
-        });
-    }
-    Ok(ends)
 }
 
 /// Enters these scopes, the last one first.
@@ -159,13 +225,12 @@ fn enter_way(
     store: &ExpressionStore,
     scopes: &ExprScopes,
     stacks: &mut NameStacks,
-    mut left: &[ScopeId],
+    mut left: Seq<ScopeId>,
 ) -> Result<(), AllocError>
-    ensures { IfOk result (λ _. stacks.new ≡ flat_map (own_ribs store.now scopes.now) left.entry.now ++ stacks.old) }
+    ensures { IfOk result (λ _. stacks.new ≡ flat_map (own_ribs store.now scopes.now) left ++ stacks.old) }
 {
-    while let [rest @ .., scope] = left {
-        enter_scope(store, scopes, stacks, *scope)?;
-        left = rest;
+    while let Some(scope) = left.pop() {
+        enter_scope(store, scopes, stacks, scope)?;
     }
     Ok(())
 }
@@ -187,9 +252,8 @@ pub(crate) fn move_to(
         here: from,
         there: to,
     };
-    while !is_met(ends) {
-        ends = step(store, scopes, stacks, &mut way, ends)?;
+    while let Some(step) = next_step(ends) {
+        ends = take_step(store, scopes, stacks, &mut way, ends, step)?;
     }
-    enter_way(store, scopes, stacks, way.as_slice())?;
-    Ok(())
+    enter_way(store, scopes, stacks, way)
 }

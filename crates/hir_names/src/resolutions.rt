@@ -1,12 +1,13 @@
 //! Which binding each name means.
 
-ghost use Rattle.std.specs.Prelude.{◌≡◌, ◌∷◌, [], IfOk, ℕ, None, Some, length, slice_get, slice_set};
+ghost use Rattle.std.specs.Prelude.{◌≡◌, ◌∷◌, [], IfOk, List, ℕ, Some, length, slice_get, slice_set};
 ghost use Rattle.hir_names.specs.Reads.{Means, Reads};
 ghost use Rattle.hir_names.specs.Walk.{IsInScope, Resolved};
 ghost use Rattle.hir_scopes.specs.Parts.{joined};
 ghost use Rattle.hir_store.specs.declared.ids.BindingId.{BindingId as Binding};
 ghost use Rattle.hir_store.specs.declared.ids.ExprId.{ExprId as Expr};
 
+use crate::lists::first_placed;
 use crate::mentions::{name_read, names_in_order};
 use crate::places::move_to;
 use crate::stacks::NameStacks;
@@ -95,7 +96,7 @@ fn resolve_name<E: LowerEnv>(
 /// No answers yet, for so many expressions.
 fn no_answers(alloc: Global, exprs: u32) -> Result<Seq<Option<BindingId>>, AllocError>
     ensures exprs { IfOk result (λ bs. length bs ≡ exprs) }
-    ensures none { IfOk result (λ bs. (e : ℕ) (b : Binding) → joined (slice_get bs e) ≡ Some b → ⊥) }
+    ensures none { IfOk result (λ bs. (e : ℕ) (b : Binding) → slice_get bs e ≡ Some (Some b) → ⊥) }
 {
     let mut answers = Seq::new(alloc);
     for _ in 0..exprs {
@@ -105,17 +106,35 @@ fn no_answers(alloc: Global, exprs: u32) -> Result<Seq<Option<BindingId>>, Alloc
 }
 
 /// Notes what an expression means.
-fn set_answer(
-    answers: &mut Seq<Option<BindingId>>,
-    expr: ExprId,
-    binding: Option<BindingId>,
-)
+fn set_answer(answers: &mut Seq<Option<BindingId>>, expr: ExprId, binding: Option<BindingId>)
     ensures { answers.new ≡ slice_set answers.old expr.0 binding }
 {
     let index = expr.0 as usize;
     if index < answers.len() {
         answers.set(index, binding);
     }
+}
+
+/// Answers one name more. The walk goes from this scope to that of the name, which it returns.
+fn resolve_next<E: LowerEnv>(
+    alloc: Global,
+    env: &E,
+    store: &ExpressionStore,
+    scopes: &ExprScopes,
+    stacks: &mut NameStacks,
+    here: Option<ScopeId>,
+    one: (u32, ExprId),
+    answers: &mut Seq<Option<BindingId>>,
+) -> Result<Option<ScopeId>, AllocError>
+    requires { IsInScope store.now scopes.now here stacks.old }
+    ensures here { IfOk result (λ s. IsInScope store.now scopes.now s stacks.new) }
+    ensures answers { IfOk result (λ _. (rest : List (ℕ × Expr))
+        → Resolved store.now scopes.now (E.answers env.now).contexts answers.old (one ∷ rest)
+        → Resolved store.now scopes.now (E.answers env.now).contexts answers.new rest) }
+{
+    let answer = resolve_name(alloc, env, store, scopes, stacks, here, one.1)?;
+    set_answer(answers, one.1, answer.binding);
+    Ok(answer.scope)
 }
 
 /// Answers all these names, in one walk.
@@ -127,16 +146,23 @@ fn resolve_each<E: LowerEnv>(
     mut left: &[(u32, ExprId)],
     answers: &mut Seq<Option<BindingId>>,
 ) -> Result<(), AllocError>
-    requires { Resolved store.now scopes.now (E.answers env.now).contexts answers.old left }
+    requires { Resolved store.now scopes.now (E.answers env.now).contexts answers.old left.now }
     ensures { IfOk result (λ _. Resolved store.now scopes.now (E.answers env.now).contexts answers.new []) }
 {
     let mut stacks = NameStacks::new(alloc);
     let mut here = None;
-    while let [(_, expr), rest @ ..] = left {
-        let answer = resolve_name(alloc, env, store, scopes, &mut stacks, here, *expr)?;
-        here = answer.scope;
-        set_answer(answers, *expr, answer.binding);
-        left = rest;
+    while let Some(split) = first_placed(left) {
+        here = resolve_next(
+            alloc,
+            env,
+            store,
+            scopes,
+            &mut stacks,
+            here,
+            split.0,
+            answers,
+        )?;
+        left = split.1;
     }
     Ok(())
 }

@@ -63,6 +63,7 @@ impl NameStacks {
     }
 
     /// Leaves what was entered last, if anything is in scope.
+    #[tactic(auto, using(crate::proofs::StackLemmas::rest_dropped))]
     pub fn leave(&mut self)
         ensures { self.new ≡ drop 1 self.old }
     {
@@ -70,12 +71,8 @@ impl NameStacks {
     }
 
     /// The binding that a name of this hygiene means.
-    pub fn find<E: LowerEnv>(
-        &self,
-        env: &E,
-        name: &Name,
-        hygiene: HygieneId,
-    ) -> Option<BindingId>
+    #[tactic(auto, using(crate::proofs::StackLemmas::found_binding, crate::proofs::StackLemmas::no_binding))]
+    pub fn find<E: LowerEnv>(&self, env: &E, name: &Name, hygiene: HygieneId) -> Option<BindingId>
         ensures { result ≡ number_found (search (E.answers env.now).contexts name.now (sought_first hygiene) self.now) }
     {
         match self.labels.find(env, name, hygiene) {

@@ -1,0 +1,19 @@
+use Rattle.std.proofs.Common.{arith, ap, length, ◌∙◌, sym}
+use Rattle.hir_names.proofs.UpvarLemmas.{next_mention, no_mention}
+use Rattle.hir_names.proofs.upvars.add_mentions.Goals as goal
+
+pub loop-split-preserved : goal.loop-split-preserved
+loop-split-preserved c = (
+  c.in_ok-add_mention.ensures.seen,
+  c.loop-split.invariant.1
+      ∙ next_mention c.args.store.now c.args.resolutions.now c.args.closure c.loop-split.left.now _ _ c.loop-split.upvars
+      c.add_mention.new.upvars c.in-Some.ensures c.in_ok-add_mention.ensures.upvars,
+)
+
+pub loop-split-smaller : goal.loop-split-smaller
+loop-split-smaller c = let all = ap length c.in-Some.ensures in omega (arith, all)
+
+pub returns : goal.returns
+returns c =
+    sym (c.loop-split.invariant.1
+    ∙ no_mention c.args.store.now c.args.resolutions.now c.args.closure c.loop-split.left.now c.loop-split.upvars c.in_default.ensures)
