@@ -114,5 +114,21 @@ module _ (store : Store) where
   pub none_left : (left done : List ExprId) → left ≡ [] → done ++ flat_map (exprs_in store) (reverse left) ≡ done
   none_left left done none = ap (λ gs. done ++ flat_map (exprs_in store) (reverse gs)) none ∙ append-nil done
 
+  -- at the start
+
+  pub no_body : (closure : ExprId) (left : List ExprId) (o : Option ExprId) → left ≡ [] → None ≡ o
+      → flat_map (exprs_in store) (reverse left) ≡ exprs_of_body store closure o
+  no_body closure left o none is =
+      ap (λ gs. flat_map (exprs_in store) (reverse gs)) none ∙ ap (exprs_of_body store closure) is
+
+  pub one_body : (closure : ExprId) (left fs : List ExprId) (o : Option ExprId) (b : ExprId) → left ≡ [] → Some b ≡ o
+      → flat_map (exprs_in store) (reverse fs)
+      ≡ if_below store closure (exprs_in store) b ++ flat_map (exprs_in store) (reverse left)
+      → flat_map (exprs_in store) (reverse fs) ≡ exprs_of_body store closure o
+  one_body closure left fs o b none is added =
+      added
+      ∙ (ap (λ gs. if_below store closure (exprs_in store) b ++ flat_map (exprs_in store) (reverse gs)) none
+      ∙ (append-nil (if_below store closure (exprs_in store) b) ∙ ap (exprs_of_body store closure) is))
+
 pub begun : (es done : List ExprId) → done ≡ [] → es ≡ done ++ es
 begun es done none = ap (λ gs. gs ++ es) (sym none)

@@ -171,13 +171,13 @@ module _ (store : Store) (meanings : List (Option BindingId)) (closure : ExprId)
       → has_binding (with_upvars store meanings closure bs es) b ≡ true
   meant_there [] bs b meant = absurd (true≢false (sym meant.0.1))
   meant_there (d ∷ es) bs b meant =
-      elim (or_cases (nat_eq d.0 meant.0.0) (has_expr es meant.0.0) meant.0.1) [
+      elim (or_cases (nat_eq d.0 meant.0.0.0) (has_expr es meant.0.0) meant.0.1) [
         | inl now ↦ all_kept es (with_upvar store meanings closure bs (joined (slice_get meanings d.0))) b (here now)
         | inr later ↦ meant_there es (with_upvar store meanings closure bs (joined (slice_get meanings d.0))) b
             ((meant.0.0, later, meant.0.2), meant.1)
       ]
     where
-      here : nat_eq d.0 meant.0.0 ≡ true
+      here : nat_eq d.0 meant.0.0.0 ≡ true
           → has_binding (with_upvar store meanings closure bs (joined (slice_get meanings d.0))) b ≡ true
       here now =
           let means = ap (λ (e : ExprId). joined (slice_get meanings e.0)) (same_expr d meant.0.0 now) ∙ meant.0.2 in
@@ -206,7 +206,7 @@ module _ (store : Store) (meanings : List (Option BindingId)) (closure : ExprId)
   all_from (d ∷ es) bs b is =
       elim (all_from es (with_upvar store meanings closure bs (joined (slice_get meanings d.0))) b is) [
         | inl old ↦ here (one_from bs (joined (slice_get meanings d.0)) b old)
-        | inr meant ↦ inr ((meant.0.0, or_right (nat_eq d.0 meant.0.0) (has_expr es meant.0.0) meant.0.1, meant.0.2), meant.1)
+        | inr meant ↦ inr ((meant.0.0, or_right (nat_eq d.0 meant.0.0.0) (has_expr es meant.0.0) meant.0.1, meant.0.2), meant.1)
       ]
     where
       here : (has_binding bs b ≡ true) ⊎ ((joined (slice_get meanings d.0) ≡ Some b) × (is_made_in store closure b ≡ false))

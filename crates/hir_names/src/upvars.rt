@@ -71,6 +71,24 @@ fn exprs_inside(
     Ok(exprs)
 }
 
+/// The body of a closure alone, if its id is less than the closure's.
+fn body_alone(
+    alloc: Global,
+    store: &ExpressionStore,
+    closure: ExprId,
+) -> Result<Seq<ExprId>, AllocError>
+    ensures { IfOk result (λ left. flat_map (exprs_in store.now) (reverse left) ≡ body_exprs store.now closure) }
+{
+    let mut left = Seq::new(alloc);
+    match body_of(store, closure) {
+        None => Ok(left),
+        Some(body) => {
+            add_part(&mut left, closure, body)?;
+            Ok(left)
+        }
+    }
+}
+
 /// The expressions in the body of a closure, the body first, each whole before its parts; none of an expression that is no closure.
 fn exprs_in_body(
     alloc: Global,
@@ -79,11 +97,9 @@ fn exprs_in_body(
 ) -> Result<Seq<ExprId>, StoreError>
     ensures { IfOk result (λ es. es ≡ body_exprs store.now closure) }
 {
-    let mut left = Seq::new(alloc);
-    if let Some(body) = body_of(store, closure) {
-        add_part(&mut left, closure, body)?;
-    }
-    exprs_inside(alloc, store, left)
+    let left = body_alone(alloc, store, closure)?;
+    let exprs = exprs_inside(alloc, store, left)?;
+    Ok(exprs)
 }
 
 /// These expressions as a set.
@@ -110,7 +126,12 @@ fn is_made_in(
 {
     match store.binding_owner(binding) {
         None => false,
-        Some(owner) => owner == closure || inside.contains(&owner),
+        Some(owner) => {
+            if owner == closure {
+                return true;
+            }
+            inside.contains(&owner)
+        }
     }
 }
 
@@ -201,7 +222,8 @@ pub fn upvars(
     ensures order { IfOk result (λ bs. bs ≡ with_upvars store.now resolutions.now closure [] (body_exprs store.now closure)) }
 {
     let exprs = exprs_in_body(alloc, store, closure)?;
-    let inside = set_of(alloc, exprs.as_slice())?;
+    let body = exprs.as_slice();
+    let inside = set_of(alloc, body)?;
     let mut upvars = Seq::new(alloc);
     add_mentions(
         alloc,
@@ -210,7 +232,7 @@ pub fn upvars(
         closure,
         &inside,
         &mut upvars,
-        exprs.as_slice(),
+        body,
     )?;
     Ok(upvars)
 }

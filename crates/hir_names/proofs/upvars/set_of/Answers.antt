@@ -1,6 +1,14 @@
 use Rattle.std.proofs.Common.{arith, ap, length, ◌∙◌, sym}
+use Rattle.std.specs.BTreeMap.{is_at}
+use Rattle.std.specs.List.{list_any}
+use Rattle.std.specs.Prelude.{◌||◌}
+use Rattle.hir_names.specs.Sets.{expr_cmp}
+use Rattle.hir_names.specs.Upvars.{has_expr}
 use Rattle.hir_names.proofs.UpvarLemmas.{all_in, one_more_in}
 use Rattle.hir_names.proofs.upvars.set_of.Goals as goal
+
+pub loop-split-init : goal.loop-split-init
+loop-split-init c = λ e. ap (λ ks. list_any (is_at (expr_cmp e)) ks || has_expr c.args.left.now e) c.new-set.ensures.empty
 
 pub loop-split-preserved : goal.loop-split-preserved
 loop-split-preserved c =
