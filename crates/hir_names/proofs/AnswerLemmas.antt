@@ -79,6 +79,12 @@ module _ (store : Store) (m : ScopeLists) where
   pub reads_within : (e : ExprId) → Reads store m e → e.0 < length store.exprs
   reads_within e reads = name_within e reads.0 reads.2
 
+  pub not_named : (e : ExprId) → None ≡ name_in (slice_get store.exprs e.0) → Reads store m e → ⊥
+  not_named e none reads = true≢false (sym (ap is_some (none ∙ reads.2)))
+
+  pub not_scoped : (e : ExprId) → None ≡ joined (slice_get m.by_expr e.0) → Reads store m e → ⊥
+  not_scoped e none reads = true≢false (sym (ap is_some (none ∙ ap joined reads.3)))
+
   -- one expression more is listed, if it is a name
   pub next_listed : (rs us : List (ℕ × ExprId)) (n : ℕ)
       → ((e : ExprId) → e.0 < n → Reads store m e → (place : ℕ) × Contains rs (place, e))

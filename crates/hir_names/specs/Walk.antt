@@ -22,6 +22,11 @@ abbrev pub how_far : Option ScopeId → ℕ
 how_far None = 0
 how_far (Some s) = suc s.0
 
+-- It is among these, behind some place.
+abbrev pub IsLeft : ExprId → List (ℕ × ExprId) → Type 0
+IsLeft e [] = ⊥
+IsLeft e (r ∷ rs) = (e ≡ r.1) ⊎ IsLeft e rs
+
 module _ (store : Store) (m : ScopeLists) where
   -- what a name meets in one scope
   abbrev pub own_ribs : ScopeId → List (Rib BindingId)
@@ -42,11 +47,6 @@ module _ (store : Store) (m : ScopeLists) where
   -- This is in scope there.
   abbrev pub IsInScope : Option ScopeId → List (Rib BindingId) → Type 0
   IsInScope s rs = (n : ℕ) → Ends n s → rs ≡ ribs_to n s
-
-  -- Among what is left, under some place.
-  abbrev pub IsLeft : ExprId → List (ℕ × ExprId) → Type 0
-  IsLeft e [] = ⊥
-  IsLeft e (r ∷ rs) = (e ≡ r.1) ⊎ IsLeft e rs
 
   -- Each name has its answer, but for those that are left.
   pub record Resolved (contexts : Contexts) (bs : List (Option BindingId)) (left : List (ℕ × ExprId)) : Type 0 where

@@ -1,6 +1,6 @@
 //! The expressions of a store that are names.
 
-ghost use Rattle.std.specs.Prelude.{◌≡◌, ℕ, IfOk, IsSome, slice_get};
+ghost use Rattle.std.specs.Prelude.{◌≡◌, ℕ, IfOk, None, slice_get};
 ghost use Rattle.std.specs.List.{Contains};
 ghost use Rattle.std.specs.Option.{option_copied};
 ghost use Rattle.hir_names.specs.Reads.{Reads, name_in};
@@ -38,10 +38,14 @@ fn place_of(
     places: &[u32],
     expr: ExprId,
 ) -> Option<u32>
-    ensures { Reads store.now scopes.now expr → IsSome result }
+    ensures { result ≡ None → Reads store.now scopes.now expr → ⊥ }
 {
-    name_read(store, expr)?;
-    let scope = scopes.scope_for(expr)?;
+    let Some(_) = name_read(store, expr) else {
+        return None;
+    };
+    let Some(scope) = scopes.scope_for(expr) else {
+        return None;
+    };
     Some(number_at(places, scope.0 as usize))
 }
 
