@@ -1,4 +1,3 @@
-pub mod ListLemmas
 pub mod StackLemmas
 pub mod PlaceLemmas
 pub mod WayLemmas

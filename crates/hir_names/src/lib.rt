@@ -1,7 +1,6 @@
 //! Which binding each name of a body means, resolved in one walk over its scopes; and what a closure mentions from outside.
 #![tactic(auto)]
 
-mod lists;
 mod mentions;
 mod order;
 mod places;

@@ -11,7 +11,6 @@ ghost use Rattle.hir_store.specs.Stored.{Store};
 ghost use Rattle.hir_store.specs.declared.ids.BindingId.{BindingId as Id};
 ghost use Rattle.spec_scopes.specs.Scopes.{binding_rib, binding_ribs};
 
-use crate::lists::{first_binding, last_binding};
 use crate::stacks::NameStacks;
 use hir_base::Seq;
 use hir_scopes::scope::{ExprScopes, ScopeId};
@@ -56,8 +55,8 @@ fn enter_bindings(
 ) -> Result<(), AllocError>
     ensures { IfOk result (λ _. stacks.new ≡ binding_ribs store.now left.entry.now ++ stacks.old) }
 {
-    while let Some(split) = last_binding(left) {
-        enter_binding(store, stacks, split.0)?;
+    while let Some(split) = left.split_last() {
+        enter_binding(store, stacks, *split.0)?;
         left = split.1;
     }
     Ok(())
@@ -67,8 +66,8 @@ fn enter_bindings(
 fn leave_bindings(store: &ExpressionStore, stacks: &mut NameStacks, mut left: &[BindingId])
     ensures { (rs : List (Rib Id)) → binding_ribs store.now left.entry.now ++ rs ≡ stacks.old → stacks.new ≡ rs }
 {
-    while let Some(split) = first_binding(left) {
-        leave_binding(store, stacks, split.0);
+    while let Some(split) = left.split_first() {
+        leave_binding(store, stacks, *split.0);
         left = split.1;
     }
 }

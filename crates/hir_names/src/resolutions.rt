@@ -7,7 +7,6 @@ ghost use Rattle.hir_scopes.specs.Parts.{joined};
 ghost use Rattle.hir_store.specs.declared.ids.BindingId.{BindingId as Binding};
 ghost use Rattle.hir_store.specs.declared.ids.ExprId.{ExprId as Expr};
 
-use crate::lists::first_placed;
 use crate::mentions::{name_read, names_in_order};
 use crate::places::move_to;
 use crate::stacks::NameStacks;
@@ -151,7 +150,7 @@ fn resolve_each<E: LowerEnv>(
 {
     let mut stacks = NameStacks::new(alloc);
     let mut here = None;
-    while let Some(split) = first_placed(left) {
+    while let Some(split) = left.split_first() {
         here = resolve_next(
             alloc,
             env,
@@ -159,7 +158,7 @@ fn resolve_each<E: LowerEnv>(
             scopes,
             &mut stacks,
             here,
-            split.0,
+            *split.0,
             answers,
         )?;
         left = split.1;

@@ -10,7 +10,6 @@ ghost use Rattle.hir_store.specs.declared.ids.BindingId.{BindingId as Binding};
 ghost use Rattle.hir_store.specs.declared.ids.ExprId.{ExprId as Id};
 ghost use Rattle.hir_store.specs.Stored.{Store};
 
-use crate::lists::{first_expr, last_expr};
 use crate::resolutions::Resolutions;
 use hir_base::Seq;
 use hir_store::error::StoreError;
@@ -37,8 +36,8 @@ fn add_parts(left: &mut Seq<ExprId>, whole: ExprId, mut parts: &[ExprId]) -> Res
     ensures { IfOk result (λ _. (store : Store) → flat_map (exprs_in store) (reverse left.new)
         ≡ flat_map (if_below store whole (exprs_in store)) parts.entry.now ++ flat_map (exprs_in store) (reverse left.old)) }
 {
-    while let Some(split) = last_expr(parts) {
-        add_part(left, whole, split.0)?;
+    while let Some(split) = parts.split_last() {
+        add_part(left, whole, *split.0)?;
         parts = split.1;
     }
     Ok(())
@@ -107,8 +106,8 @@ fn set_of(alloc: Global, mut left: &[ExprId]) -> Result<BTreeSet<ExprId>, AllocE
     ensures { IfOk result (λ s. (e : Id) → has_in s e ≡ has_expr left.entry.now e) }
 {
     let mut set = BTreeSet::new(alloc);
-    while let Some(split) = first_expr(left) {
-        set.insert(split.0)?;
+    while let Some(split) = left.split_first() {
+        set.insert(*split.0)?;
         left = split.1;
     }
     Ok(set)
@@ -195,7 +194,7 @@ fn add_mentions(
     ensures { IfOk result (λ _. upvars.new ≡ with_upvars store.now resolutions.now closure [] left.entry.now) }
 {
     let mut seen = BTreeSet::new(alloc);
-    while let Some(split) = first_expr(left) {
+    while let Some(split) = left.split_first() {
         add_mention(
             store,
             resolutions,
@@ -203,7 +202,7 @@ fn add_mentions(
             inside,
             &mut seen,
             upvars,
-            split.0,
+            *split.0,
         )?;
         left = split.1;
     }

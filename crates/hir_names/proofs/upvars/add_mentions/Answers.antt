@@ -1,4 +1,5 @@
-use Rattle.std.proofs.Common.{arith, ap, length, ◌∙◌, sym}
+use Rattle.std.proofs.Common.{arith, ap, ◌∙◌, sym}
+use Rattle.std.proofs.lemmas.List.{nil_from_length}
 use Rattle.std.specs.BTreeMap.{is_at}
 use Rattle.std.specs.List.{list_any}
 use Rattle.hir_names.specs.Sets.{binding_cmp}
@@ -17,13 +18,13 @@ loop-split-preserved c = (
   c.in_ok-add_mention.ensures.seen,
   c.loop-split.invariant.1
       ∙ next_mention c.args.store.now c.args.resolutions.now c.args.closure c.loop-split.left.now _ _ c.loop-split.upvars
-      c.add_mention.new.upvars c.in-Some.ensures c.in_ok-add_mention.ensures.upvars,
+      c.add_mention.new.upvars c.in-Some.ensures.cases.0 c.in_ok-add_mention.ensures.upvars,
 )
 
 pub loop-split-smaller : goal.loop-split-smaller
-loop-split-smaller c = let all = ap length c.in-Some.ensures in omega (arith, all)
+loop-split-smaller c = omega (arith, c.in-Some.ensures.cases.1)
 
 pub returns : goal.returns
 returns c =
     sym (c.loop-split.invariant.1
-    ∙ no_mention c.args.store.now c.args.resolutions.now c.args.closure c.loop-split.left.now c.loop-split.upvars c.in_default.ensures)
+    ∙ no_mention c.args.store.now c.args.resolutions.now c.args.closure c.loop-split.left.now c.loop-split.upvars (nil_from_length _ c.in_default.ensures.cases))
