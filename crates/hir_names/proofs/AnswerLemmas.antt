@@ -36,7 +36,7 @@ get_other [] i j x other = refl
 get_other (y ∷ xs) zero zero x other = absurd (true≢false other)
 get_other (y ∷ xs) zero (suc j) x other = refl
 get_other (y ∷ xs) (suc i) zero x other = refl
-get_other (y ∷ xs) (suc i) (suc j) x other = get_other xs i j x other
+get_other (y ∷ xs) (suc i) (suc j) x other = let apart : nat_eq j i ≡ false = grind (arith, nat_tests) in get_other xs i j x apart
 
 length_set : {A : Type 0} (xs : List A) (i : ℕ) (x : A) → length (slice_set xs i x) ≡ length xs
 length_set [] i x = refl

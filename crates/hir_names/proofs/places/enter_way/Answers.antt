@@ -1,4 +1,4 @@
-use Rattle.std.proofs.Common.{arith, ◌∙◌, ap, sym, length, length-append}
+use Rattle.std.proofs.Common.{arith, ◌∙◌, ap, sym, length, length-append, [], ◌∷◌}
 use Rattle.hir_names.proofs.WayLemmas.{last_entered, none_entered}
 use Rattle.hir_names.proofs.places.enter_way.Goals as goal
 
@@ -8,7 +8,7 @@ loop-scope-preserved c = c.loop-scope.invariant
     c.enter_scope.new.stacks c.in-Some.ensures c.in_ok-enter_scope.ensures
 
 pub loop-scope-smaller : goal.loop-scope-smaller
-loop-scope-smaller c = let all = ap length c.in-Some.ensures in omega (arith, all, length-append)
+loop-scope-smaller c = let all = ap length c.in-Some.ensures in omega (arith, all, length-append c.pop.new.self (c.in-Some.scope ∷ []))
 
 pub returns : goal.returns
 returns c =
