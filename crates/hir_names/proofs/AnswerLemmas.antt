@@ -178,7 +178,8 @@ module _ (store : Store) (m : ScopeLists) where
             → Reads store m e
         read e d is true t =
             subst (Reads store m) (same e t)
-            (reads d (get_written bs r.1.0 b d (subst (λ (c : ExprId). joined (slice_get (slice_set bs r.1.0 b) c.0) ≡ Some d) (sym (same e t)) is)))
+            (reads d (get_written bs r.1.0 b d
+            (subst (λ (c : ExprId). joined (slice_get (slice_set bs r.1.0 b) c.0) ≡ Some d) (sym (same e t)) is)))
         read e d is false t = resolved.reads e d (ap joined (sym (get_other bs r.1.0 e.0 b t)) ∙ is)
 
     pub next_resolved : (left rest : List (ℕ × ExprId)) (r : ℕ × ExprId) (bs cs : List (Option BindingId)) → left ≡ r ∷ rest

@@ -159,7 +159,8 @@ module _ (store : Store) (meanings : List (Option BindingId)) (closure : ExprId)
 
   one_there : (bs : List BindingId) (b : BindingId) → is_made_in store closure b ≡ false
       → has_binding (with_upvar store meanings closure bs (Some b)) b ≡ true
-  one_there bs b made = ap (λ (t : Bool). has_binding (if t || has_binding bs b then bs else bs ++ b ∷ []) b) made ∙ by (has_binding bs b) refl
+  one_there bs b made =
+      ap (λ (t : Bool). has_binding (if t || has_binding bs b then bs else bs ++ b ∷ []) b) made ∙ by (has_binding bs b) refl
     where
       by : (t : Bool) → has_binding bs b ≡ t → has_binding (if t then bs else bs ++ b ∷ []) b ≡ true
       by true is = is

@@ -1,5 +1,6 @@
 -- What is in scope stays right where a scope is entered from the one around it, and where it is left for that.
-use Rattle.std.proofs.Common.{arith, ◌≡◌, ◌∙◌, refl, sym, ap, subst, ◌+◌, ◌<◌, ℕ, zero, suc, List, [], ◌∷◌, ◌++◌, Option, Some, None, length, slice_get}
+use Rattle.std.proofs.Common.{arith, ◌≡◌, ◌∙◌, refl, sym, ap, subst, ◌+◌, ◌<◌, ℕ, zero, suc}
+use Rattle.std.proofs.Common.{List, [], ◌∷◌, ◌++◌, Option, Some, None, length, slice_get}
 use Rattle.std.proofs.lemmas.List.{append_assoc, append-nil}
 use Rattle.std.specs.List.{flat_map}
 use Rattle.std.specs.Prelude.{Result, Ok, Err, IfOk}
@@ -82,7 +83,8 @@ module _ (store : Store) (m : ScopeLists) where
       ++ macro_ribs (macro_def_in (Some (record { parent = p; kind = k })))) ++ ribs_of store zs
       ≡ ribs_of store (scope_of m.entries k ∷ zs)
   kind_ribs p (kind.Bindings start end) zs =
-      ap (λ rs. rs ++ ribs_of store zs) (append-nil (binding_ribs store (entries_in m.entries (Some (record { parent = p; kind = kind.Bindings start end })))))
+      ap (λ rs. rs ++ ribs_of store zs)
+      (append-nil (binding_ribs store (entries_in m.entries (Some (record { parent = p; kind = kind.Bindings start end })))))
   kind_ribs p (kind.Block id label) zs = refl
   kind_ribs p (kind.Loop label) zs = refl
   kind_ribs p (kind.MacroDef d) zs = refl

@@ -11,8 +11,8 @@ use hir_store::pat::Binding;
 use std::alloc::{AllocError, Global};
 use std::marker::Model;
 
-/// The bindings and the definitions of macros in scope, one in the other. A binding is found as a label is, so it stands among labels, under
-/// its own number. Contracts see one list, innermost first.
+/// The bindings and the definitions of macros in scope, one in the other. A binding is found as a label is, so it stands among labels,
+/// under its own number. Contracts see one list, innermost first.
 pub(crate) struct NameStacks {
     labels: LabelStacks,
 }

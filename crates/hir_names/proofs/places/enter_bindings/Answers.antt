@@ -12,4 +12,6 @@ pub loop-split-smaller : goal.loop-split-smaller
 loop-split-smaller c = omega (arith, c.in-Some.ensures.cases.1)
 
 pub returns : goal.returns
-returns c = sym (c.loop-split.invariant ∙ none_entered c.args.store.now c.loop-split.left.now c.loop-split.stacks (nil_from_length _ c.in_default.ensures.cases))
+returns c =
+    sym (c.loop-split.invariant
+    ∙ none_entered c.args.store.now c.loop-split.left.now c.loop-split.stacks (nil_from_length _ c.in_default.ensures.cases))

@@ -17,4 +17,6 @@ loop-split-smaller c = omega (arith, c.in-Some.ensures.cases.1)
 
 pub returns : goal.returns
 returns c =
-    λ rs were. c.loop-split.invariant rs were ∙ none_entered c.args.store.now c.loop-split.left.now rs (nil_from_length _ c.in_default.ensures.cases)
+    λ rs were.
+    c.loop-split.invariant rs were
+    ∙ none_entered c.args.store.now c.loop-split.left.now rs (nil_from_length _ c.in_default.ensures.cases)

@@ -27,4 +27,5 @@ loop-split-smaller c = omega (arith, c.in-Some.ensures.cases.1)
 pub returns : goal.returns
 returns c =
     sym (c.loop-split.invariant.1
-    ∙ no_mention c.args.store.now c.args.resolutions.now c.args.closure c.loop-split.left.now c.loop-split.upvars (nil_from_length _ c.in_default.ensures.cases))
+    ∙ no_mention c.args.store.now c.args.resolutions.now c.args.closure c.loop-split.left.now c.loop-split.upvars
+    (nil_from_length _ c.in_default.ensures.cases))

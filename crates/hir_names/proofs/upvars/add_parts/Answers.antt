@@ -16,4 +16,5 @@ loop-split-smaller c = omega (arith, c.in-Some.ensures.cases.1)
 pub returns : goal.returns
 returns c =
     λ store.
-    sym (c.loop-split.invariant store ∙ none_added store c.loop-split.parts.now c.loop-split.left c.args.whole (nil_from_length _ c.in_default.ensures.cases))
+    sym (c.loop-split.invariant store
+    ∙ none_added store c.loop-split.parts.now c.loop-split.left c.args.whole (nil_from_length _ c.in_default.ensures.cases))
