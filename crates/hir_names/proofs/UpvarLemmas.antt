@@ -12,7 +12,7 @@ use Rattle.hir_store.specs.Stored.{Store}
 use Rattle.hir_store.specs.declared.ids.BindingId.{BindingId}
 use Rattle.hir_store.specs.declared.ids.ExprId.{ExprId}
 use Rattle.hir_names.specs.Sets.{binding_cmp, expr_cmp, has_in, has_seen}
-use Rattle.hir_names.specs.Upvars.{IsUpvar, body_exprs, has_binding, has_expr, is_made_in, with_upvar, with_upvars}
+use Rattle.hir_names.specs.Upvars.{IsUpvar, body_exprs, has_binding, has_expr, is_inside, is_made_in, with_upvar, with_upvars}
 
 at_number : (k j : ℕ) → is_eq (nat_cmp k j) ≡ nat_eq k j
 at_number k j = grind (arith, nat_tests)
@@ -99,6 +99,19 @@ module _ (s t : BTreeSet BindingId) (bs : List BindingId) (d : BindingId) (same 
   pub new_added : (cs : List BindingId) → cs ≡ bs ++ d ∷ [] → true ≡ not (has_seen s d)
       → cs ≡ (if has_binding bs d then bs else bs ++ d ∷ [])
   new_added cs pushed new = pushed ∙ ap (λ (u : Bool). if u then bs else bs ++ d ∷ []) (sym (wasnt_there new))
+
+-- whether an owner is inside
+module _ (store : Store) (closure : ExprId) (o : Option ExprId) where
+  pub no_owner : None ≡ o → false ≡ is_inside store closure o
+  no_owner is = ap (is_inside store closure) is
+
+  pub owner_itself : (w : ExprId) → Some w ≡ o → nat_eq w.0 closure.0 ≡ true → true ≡ is_inside store closure o
+  owner_itself w is same = ap (λ t. t || has_expr (body_exprs store closure) w) (sym same) ∙ ap (is_inside store closure) is
+
+  pub owner_inside : (w : ExprId) (r : Bool) → Some w ≡ o → nat_eq w.0 closure.0 ≡ false → r ≡ has_expr (body_exprs store closure) w
+      → r ≡ is_inside store closure o
+  owner_inside w r is other inside =
+      inside ∙ (ap (λ t. t || has_expr (body_exprs store closure) w) (sym other) ∙ ap (is_inside store closure) is)
 
 module _ (store : Store) (meanings : List (Option BindingId)) (closure : ExprId) where
   -- one expression

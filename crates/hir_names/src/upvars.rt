@@ -21,6 +21,7 @@ use std::alloc::{AllocError, Global};
 use std::collections::BTreeSet;
 
 /// Puts a part of an expression on top of what is left, if its id is less than the whole's.
+#[tactic(auto, using(crate::proofs::BodyLemmas::part_added, crate::proofs::BodyLemmas::part_passed))]
 fn add_part(left: &mut Seq<ExprId>, whole: ExprId, part: ExprId) -> Result<(), AllocError>
     ensures { IfOk result (λ _. (store : Store) → flat_map (exprs_in store) (reverse left.new)
         ≡ if_below store whole (exprs_in store) part ++ flat_map (exprs_in store) (reverse left.old)) }
@@ -114,6 +115,7 @@ fn set_of(alloc: Global, mut left: &[ExprId]) -> Result<BTreeSet<ExprId>, AllocE
 }
 
 /// Whether a binding is made by the parameters of a closure or in its body, of which this is the set of expressions.
+#[tactic(auto, using(crate::proofs::UpvarLemmas::no_owner, crate::proofs::UpvarLemmas::owner_itself, crate::proofs::UpvarLemmas::owner_inside))]
 fn is_made_in(
     store: &ExpressionStore,
     closure: ExprId,
