@@ -110,7 +110,8 @@ class Page:
             nodes = work.document["nodes"]
             for parts in body:
                 patterns, uses = ([self.number_of(*nodes[node]["r"]) for node in part if node < len(nodes)] for part in parts)
-                self.bindings.append({"at": patterns, "uses": uses})
+                if patterns:
+                    self.bindings.append({"at": patterns, "uses": uses})
 
     def section(self, number, work):
         """The section of an item."""
