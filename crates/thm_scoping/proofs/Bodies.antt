@@ -18,8 +18,9 @@ use Rattle.spec_scoping.specs.Scoping.{Where, outside, self_names}
 use Rattle.thm_body_result.specs.Corresponds.{Open}
 use Rattle.thm_body_result.specs.Leads.{Mapping}
 use Rattle.thm_body_result.specs.OneResult.{CorrespondsSelf, CorrespondsTops}
-use Rattle.thm_scoping.specs.Agree.{BodiesAgree, Orderly}
+use Rattle.thm_scoping.specs.Agree.{BodiesAgree}
 use Rattle.thm_scoping.specs.Meant.{SameAt, SameRibs}
+use Rattle.thm_scoping.proofs.Orderly.{Orderly, orderly}
 use Rattle.thm_scoping.proofs.Agreement.{scopes_agree}
 use Rattle.thm_scoping.proofs.Keeping.{same_name_rib}
 use Rattle.thm_scoping.proofs.Tops.{ribs-append, same_top}
@@ -76,8 +77,8 @@ module _ (store : Store) (source_map : SourceMap) (self : Option BindingId) (o :
           (same_self s ms h (binding_ribs store (flat_map (bindings_in store) is) ++ []) (with_tops ps []) inner)
 
 pub bodies_agree : BodiesAgree
-bodies_agree store source_map owed skipped f e given o r there c w stands =
+bodies_agree store source_map owed skipped f e given range asked r there c w stands =
     let body = r.corresponds.1 in
-    scopes_agree store source_map given.0.0 o [] e r.root body.right body.second _ _
-    (same_outside store source_map given.0.0 o f.receiver [] _ given.0.1 body.first.left body.first.right there body.first.first
-    body.first.second) c w stands
+    scopes_agree store source_map given.0.0 range asked [] e r.root body.right body.second _ _
+    (same_outside store source_map given.0.0 (orderly store range asked) f.receiver [] _ given.0.1 body.first.left body.first.right there
+    body.first.first body.first.second) c w stands

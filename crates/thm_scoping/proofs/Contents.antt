@@ -31,8 +31,9 @@ use Rattle.thm_body_result.specs.Corresponds.{CorrespondsContents, CorrespondsKe
 use Rattle.thm_body_result.specs.Corresponds.{WithNames}
 use Rattle.thm_body_result.specs.Corresponds.{Corresponds, CorrespondsPresentBlock, Open, statement_of}
 use Rattle.thm_body_result.specs.Leads.{Mapping, Mappings}
-use Rattle.thm_scoping.specs.Agree.{EachBelow, Orderly}
 use Rattle.thm_scoping.specs.Meant.{SameAt}
+use Rattle.thm_scoping.proofs.Named.{EachBelow}
+use Rattle.thm_scoping.proofs.Orderly.{Orderly}
 use Rattle.thm_scoping.proofs.Keeping.{same_macro}
 use Rattle.thm_scoping.proofs.Operands.{Lined, Same, each_below_left, each_below_right, ended, kept_lined, lets_in_both, lets_in_enabled}
 use Rattle.thm_scoping.proofs.Operands.{lets_in_part, lined-append, present_lined, stood}

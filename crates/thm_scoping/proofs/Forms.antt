@@ -43,8 +43,9 @@ use Rattle.thm_body_result.specs.CorrespondsMade.{CorrespondsCondition, Correspo
 use Rattle.thm_body_result.specs.CorrespondsMade.{CorrespondsTry, CorrespondsWhile, CorrespondsWrapped}
 use Rattle.thm_body_result.specs.Forms.{generated_name}
 use Rattle.thm_body_result.specs.Leads.{Mapping, Mappings}
-use Rattle.thm_scoping.specs.Agree.{EachBelow, Orderly}
 use Rattle.thm_scoping.specs.Meant.{SameAt}
+use Rattle.thm_scoping.proofs.Named.{EachBelow}
+use Rattle.thm_scoping.proofs.Orderly.{Orderly}
 use Rattle.thm_scoping.proofs.Afters.{part_is, part_passed}
 use Rattle.thm_scoping.proofs.Contents.{block_end, block_see, block_split}
 use Rattle.thm_scoping.proofs.Operands.{Lined, Same, block_lined, each_below_left, each_below_right, ended, item_after, lets_in_part}

@@ -1,3 +1,5 @@
+pub mod Named
+pub mod Orderly
 pub mod Keeping
 pub mod Patterns
 pub mod Afters

@@ -45,8 +45,8 @@ use Rattle.thm_body_result.specs.CorrespondsPreludes.{CorrespondsTwoLets}
 use Rattle.thm_body_result.specs.CorrespondsPreludes.{IsHandedBy, Named, let_from, the_name}
 use Rattle.thm_body_result.specs.Forms.{path_of_name}
 use Rattle.thm_body_result.specs.Leads.{Mapping}
-use Rattle.thm_scoping.specs.Agree.{Orderly}
 use Rattle.thm_scoping.specs.Meant.{SameAt, SameNames}
+use Rattle.thm_scoping.proofs.Orderly.{Orderly}
 use Rattle.thm_scoping.proofs.Afters.{part_passed}
 use Rattle.thm_scoping.proofs.Contents.{block_end, block_split}
 use Rattle.thm_scoping.proofs.Hits.{BindsFirst, MeansAt, binds_as, first_at, pairs_at, part_binds, passed_at}

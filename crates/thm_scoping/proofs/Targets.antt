@@ -33,7 +33,9 @@ use Rattle.spec_scoping.specs.Scoping.{part, places, places_of_each, places_of_f
 use Rattle.thm_body_result.specs.Corresponds.{Corresponds, CorrespondsTarget, CorrespondsTargetFields, CorrespondsTargets, CorrespondsTuple}
 use Rattle.thm_body_result.specs.Corresponds.{Open, WherePath}
 use Rattle.thm_body_result.specs.Leads.{Mapping, Mappings, No}
-use Rattle.thm_scoping.specs.Agree.{EachBelow, Orderly, pat_constants}
+use Rattle.thm_scoping.specs.Agree.{pat_constants}
+use Rattle.thm_scoping.proofs.Named.{EachBelow}
+use Rattle.thm_scoping.proofs.Orderly.{Orderly}
 use Rattle.thm_scoping.proofs.Operands.{Lined, Plain, each_below_left, each_below_right, ended, lined-append, lined_constants, part_lined}
 use Rattle.thm_scoping.proofs.Operands.{stood}
 use Rattle.thm_scoping.proofs.Patterns.{back_of, below_left, below_more, below_right, bind_is_not_bare, fielded, first_field, first_of}

@@ -22,8 +22,8 @@ use Rattle.spec_scoping.specs.Bound.{InScope, names_of_part, top_names, with_top
 use Rattle.thm_body_result.specs.Corresponds.{CorrespondsParams, CorrespondsPatPart, NamesOf, Open, WithNames}
 use Rattle.thm_body_result.specs.CorrespondsMade.{CorrespondsMadeBind, StoredParams}
 use Rattle.thm_body_result.specs.Leads.{Mapping}
-use Rattle.thm_scoping.specs.Agree.{Orderly}
 use Rattle.thm_scoping.specs.Meant.{SameNames, SameRibs}
+use Rattle.thm_scoping.proofs.Orderly.{Orderly}
 use Rattle.thm_scoping.proofs.Keeping.{Pairs, same_generated, same_pairs}
 use Rattle.thm_scoping.proofs.Patterns.{binds_found, part_pairs}
 

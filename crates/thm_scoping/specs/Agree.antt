@@ -1,17 +1,16 @@
 -- What a stored expression sees is what the written one does.
 use Rattle.std.specs.Prelude.{◌≡◌, ◌≤◌, ◌<◌, Bool, ℕ, suc, List, [], ◌∷◌, length, slice_get, Option, Some, None}
-use Rattle.hir_store.specs.Children.{children}
+use Rattle.hir_store.specs.Range.{StoreInRange}
 use Rattle.hir_store.specs.Stored.{Store, SourceMap}
 use Rattle.hir_store.specs.declared.hir.Expr.{Expr as StoredExpr}
-use Rattle.hir_store.specs.declared.hir.Expr.TheVariants as hir
 use Rattle.hir_store.specs.declared.ids.BindingId.{BindingId}
 use Rattle.hir_store.specs.declared.ids.ExprId.{ExprId}
 use Rattle.hir_store.specs.declared.ids.PatId.{PatId}
 use Rattle.hir_store.specs.declared.pat.Pat.{Pat}
 use Rattle.hir_store.specs.declared.pat.Pat.TheVariants as pat
 use Rattle.hir_env.specs.ResolvedTree.{Expr, Formals, OptionExpr}
-use Rattle.hir_walks.specs.Exprs.{expr_constants, expr_pats, exprs_in_pat, path_constants}
-use Rattle.hir_walks.specs.Pats.{AllBelow, Descends, pats_to}
+use Rattle.hir_walks.specs.Exprs.{expr_constants, path_constants}
+use Rattle.hir_walks.specs.Pats.{AllBelow, pats_to}
 use Rattle.spec_scopes.specs.Placed.{Sees, Spot, after, outermost}
 use Rattle.spec_scopes.specs.Scopes.{Scopes}
 use Rattle.spec_scoping.specs.Scoping.{Stands, Where, outside}
@@ -21,10 +20,6 @@ use Rattle.thm_body_result.specs.Formals.{Given, formals_read}
 use Rattle.thm_body_result.specs.Leads.{Mapping}
 use Rattle.thm_body_result.specs.OneResult.{OneResult}
 use Rattle.thm_scoping.specs.Meant.{SameAt}
-
-abbrev pub EachBelow : ℕ → List ExprId → Type 0
-EachBelow n [] = Unit {0}
-EachBelow n (e ∷ es) = (e.0 < n) × EachBelow n es
 
 -- the constants among the arguments of its path
 abbrev pub pat_constants : Pat → List ExprId
@@ -39,15 +34,9 @@ module _ (store : Store) where
   BindNothing [] = Unit {0}
   BindNothing (c ∷ cs) = ((ss : Scopes) → after store c ss ≡ ss) × BindNothing cs
 
-  -- Each entry names only entries that are there, and of its own kind only earlier ones. Each pattern is inside another one in one way,
-  -- and no
-  -- constant among arguments is a `let`.
-  pub record Orderly : Type 0 where
-    pub parts : (e : ExprId) (f : StoredExpr) → slice_get store.exprs e.0 ≡ Some f → EachBelow e.0 (children f)
-    pub targets : (e : ExprId) (t : PatId) (v : ExprId) → slice_get store.exprs e.0 ≡ Some (hir.Assignment t v)
-        → EachBelow e.0 (exprs_in_pat store t)
-    pub patterns : Descends store
-    pub patterns_there : (e : ExprId) (f : StoredExpr) → slice_get store.exprs e.0 ≡ Some f → AllBelow (length store.pats) (expr_pats f)
+  -- What is asked of the store besides its invariant: all patterns inside one, as often as they stand there, are no more than the store has,
+  -- as where each is inside another one in one way; and no constant among arguments is a `let`.
+  pub record Premises : Type 0 where
     pub once : (i : PatId) → i.0 < length store.pats → length (pats_to store (suc i.0) i) ≤ length store.pats
     pub constants : (e : ExprId) (f : StoredExpr) → slice_get store.exprs e.0 ≡ Some f → BindNothing (expr_constants f)
     pub constants_of_pats : (i : PatId) (p : Pat) → slice_get store.pats i.0 ≡ Some p → BindNothing (pat_constants p)
@@ -65,7 +54,7 @@ module _ (store : Store) (source_map : SourceMap) (self : Option BindingId) (roo
 
 -- From the same start each expression that stands anywhere in the written body has its stored one.
 abbrev pub ScopesAgree : Type 0
-ScopesAgree = (store : Store) (source_map : SourceMap) (self : Option BindingId) → Orderly store
+ScopesAgree = (store : Store) (source_map : SourceMap) (self : Option BindingId) → StoreInRange store → Premises store
     → (around : Open) (e : OptionExpr) (root : ExprId) (mappings : List Mapping) → CorrespondsPart store source_map around e root mappings
     → (start : Spot) (outside : Where) → SameAt store source_map self start outside
     → (c : Expr) (w : Where) → Stands e outside c w → SeesSame store source_map self root start c w
@@ -73,6 +62,6 @@ ScopesAgree = (store : Store) (source_map : SourceMap) (self : Option BindingId)
 -- The same of a lowered function without `async` and `gen`, from its parameters on, of which `self` is the binding that is handed in.
 abbrev pub BodiesAgree : Type 0
 BodiesAgree = (store : Store) (source_map : SourceMap) (owed : Faults) (skipped : Bool) (f : Formals) (e : OptionExpr) (given : Given)
-    → Orderly store → (r : OneResult store source_map owed None skipped f given e) → AllBelow (length store.pats) given.0.1
+    → StoreInRange store → Premises store → (r : OneResult store source_map owed None skipped f given e) → AllBelow (length store.pats) given.0.1
     → (c : Expr) (w : Where) → Stands e (outside f.receiver (formals_read skipped f.formals)) c w
     → SeesSame store source_map given.0.0 r.root (outermost store given.0.0 given.0.1) c w
