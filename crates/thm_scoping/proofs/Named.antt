@@ -1,14 +1,14 @@
 -- What an entry of a store names stands in front of it, read off from what lies past all that it names.
 use Rattle.std.proofs.Common.{arith, ◌≡◌, ◌∙◌, refl, sym, ap, subst, ◌<◌, ◌≤◌, ℕ, zero, suc, max, List, [], ◌∷◌, ◌++◌, length, map, take}
-use Rattle.std.proofs.Common.{Option, Some, None, option_to_list, slice_get}
+use Rattle.std.proofs.Common.{Option, Some, None, option_to_list, slice_get, true}
 use Rattle.std.specs.List.{flat_map}
-use Rattle.hir_store.specs.Arenas.{past, past_option}
+use Rattle.hir_store.specs.Arenas.{past}
 use Rattle.hir_store.specs.Parts.{Parts, no_parts, type_and, lifetime_and, args_and, and_then, inside_args, of_arg, of_args, of_binding}
 use Rattle.hir_store.specs.Parts.{of_bound, of_each, of_present, of_type, of_use}
 use Rattle.hir_store.specs.Past as of
-use Rattle.hir_store.specs.Past.{join, past_arg, past_arg_lists, past_args, past_arms, past_binding, past_bindings, past_bound, past_bounds}
-use Rattle.hir_store.specs.Past.{past_each, past_generic, past_pat, past_pat_fields, past_pat_id, past_pat_ids, past_path, past_present}
-use Rattle.hir_store.specs.Past.{past_statement, past_statements, past_type_id, past_use_arg}
+use Rattle.hir_store.specs.Past.{join, past_arg_lists, past_args, past_arms, past_binding, past_bindings, past_bounds, past_generic}
+use Rattle.hir_store.specs.Past.{past_pat, past_pat_fields, past_pat_id, past_pat_ids, past_path, past_present, past_statement}
+use Rattle.hir_store.specs.Past.{past_statements, past_type_id}
 use Rattle.hir_store.specs.Range.{past_definition, past_expr, pats_in as pats_named}
 use Rattle.hir_store.specs.Stored.{Store}
 use Rattle.hir_store.specs.declared.hir.Expr.{Expr}

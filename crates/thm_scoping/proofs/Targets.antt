@@ -293,9 +293,9 @@ module _ (store : Store) (source_map : SourceMap) (self : Option BindingId) (o :
       let found = h.2.stored in
       let d : ℕ = length store.types + length store.pats in
       let there = (o.patterns_there i (hir.Assignment q x) found).0 in
-      let less : q.0 < d = omega (arith, there) in
+      let less : q.0 < d = omega (arith, there.0) in
       let whole : exprs_in_pat store q ≡ exprs_to d q = ap (λ l. flat_map (exprs_at store) l)
-      (pats_in_whole store o.patterns q there (o.once q there) ∙ same_levels store o.patterns (suc q.0) d q (omega arith) less) in
+      (pats_in_whole store o.patterns q there.0 there.1 ∙ same_levels store o.patterns (suc q.0) d q (omega arith) less) in
       let below = subst (λ l. EachBelow i.0 l) whole (o.targets i q x found) in
       record {
         form = hir.Assignment q x;

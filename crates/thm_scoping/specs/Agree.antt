@@ -1,5 +1,5 @@
 -- What a stored expression sees is what the written one does.
-use Rattle.std.specs.Prelude.{◌≡◌, ◌≤◌, ◌<◌, Bool, ℕ, suc, List, [], ◌∷◌, length, slice_get, Option, Some, None}
+use Rattle.std.specs.Prelude.{◌≡◌, ◌≤◌, Bool, suc, List, [], ◌∷◌, length, slice_get, Option, Some, None}
 use Rattle.hir_store.specs.Range.{StoreInRange}
 use Rattle.hir_store.specs.Stored.{Store, SourceMap}
 use Rattle.hir_store.specs.declared.hir.Expr.{Expr as StoredExpr}
@@ -9,7 +9,7 @@ use Rattle.hir_store.specs.declared.ids.PatId.{PatId}
 use Rattle.hir_store.specs.declared.pat.Pat.{Pat}
 use Rattle.hir_store.specs.declared.pat.Pat.TheVariants as pat
 use Rattle.hir_env.specs.ResolvedTree.{Expr, Formals, OptionExpr}
-use Rattle.hir_walks.specs.Exprs.{expr_constants, path_constants}
+use Rattle.hir_walks.specs.Exprs.{expr_constants, expr_pats, path_constants}
 use Rattle.hir_walks.specs.Pats.{AllBelow, pats_to}
 use Rattle.spec_scopes.specs.Placed.{Sees, Spot, after, outermost}
 use Rattle.spec_scopes.specs.Scopes.{Scopes}
@@ -34,10 +34,19 @@ module _ (store : Store) where
   BindNothing [] = Unit {0}
   BindNothing (c ∷ cs) = ((ss : Scopes) → after store c ss ≡ ss) × BindNothing cs
 
-  -- What is asked of the store besides its invariant: all patterns inside one, as often as they stand there, are no more than the store has,
-  -- as where each is inside another one in one way; and no constant among arguments is a `let`.
+  -- The patterns inside this one, as often as they stand there, are no more than the store has. This is so where each is inside another one
+  -- in one way.
+  abbrev pub IsWhole : PatId → Type 0
+  IsWhole q = length (pats_to store (suc q.0) q) ≤ length store.pats
+
+  abbrev pub AreWhole : List PatId → Type 0
+  AreWhole [] = Unit {0}
+  AreWhole (q ∷ qs) = IsWhole q × AreWhole qs
+
+  -- What is asked of the store besides its invariant: each pattern that an expression names is whole, and no constant among arguments is a
+  -- `let`.
   pub record Premises : Type 0 where
-    pub once : (i : PatId) → i.0 < length store.pats → length (pats_to store (suc i.0) i) ≤ length store.pats
+    pub whole : (e : ExprId) (f : StoredExpr) → slice_get store.exprs e.0 ≡ Some f → AreWhole (expr_pats f)
     pub constants : (e : ExprId) (f : StoredExpr) → slice_get store.exprs e.0 ≡ Some f → BindNothing (expr_constants f)
     pub constants_of_pats : (i : PatId) (p : Pat) → slice_get store.pats i.0 ≡ Some p → BindNothing (pat_constants p)
 
@@ -62,6 +71,7 @@ ScopesAgree = (store : Store) (source_map : SourceMap) (self : Option BindingId)
 -- The same of a lowered function without `async` and `gen`, from its parameters on, of which `self` is the binding that is handed in.
 abbrev pub BodiesAgree : Type 0
 BodiesAgree = (store : Store) (source_map : SourceMap) (owed : Faults) (skipped : Bool) (f : Formals) (e : OptionExpr) (given : Given)
-    → StoreInRange store → Premises store → (r : OneResult store source_map owed None skipped f given e) → AllBelow (length store.pats) given.0.1
+    → StoreInRange store → Premises store → (r : OneResult store source_map owed None skipped f given e)
+    → AllBelow (length store.pats) given.0.1 → AreWhole store given.0.1
     → (c : Expr) (w : Where) → Stands e (outside f.receiver (formals_read skipped f.formals)) c w
     → SeesSame store source_map given.0.0 r.root (outermost store given.0.0 given.0.1) c w
