@@ -112,5 +112,5 @@ module _ (store : Store) (source_map : SourceMap) (self : Option BindingId) (o :
       (record { spot = found.spot; sees = found.sees; same = found.same })) among
 
 pub scopes_agree : ScopesAgree
-scopes_agree store source_map self range asked around e root ms h start outside same c w stands =
-    all_see store source_map self (orderly store range asked) root start e outside around ms h same c w stands
+scopes_agree store source_map self range whole nothing around e root ms h start outside same c w stands =
+    all_see store source_map self (orderly store range whole nothing) root start e outside around ms h same c w stands

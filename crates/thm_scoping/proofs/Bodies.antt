@@ -21,6 +21,7 @@ use Rattle.thm_body_result.specs.OneResult.{CorrespondsSelf, CorrespondsTops}
 use Rattle.thm_scoping.specs.Agree.{BodiesAgree}
 use Rattle.thm_scoping.specs.Meant.{SameAt, SameRibs}
 use Rattle.thm_scoping.proofs.Orderly.{AllKnown, Orderly, all_known, orderly}
+use Rattle.thm_scoping.proofs.Once.{given_there, given_whole, named_whole}
 use Rattle.thm_scoping.proofs.Agreement.{scopes_agree}
 use Rattle.thm_scoping.proofs.Keeping.{same_name_rib}
 use Rattle.thm_scoping.proofs.Tops.{ribs-append, same_top}
@@ -77,8 +78,10 @@ module _ (store : Store) (source_map : SourceMap) (self : Option BindingId) (o :
           (same_self s ms h (binding_ribs store (flat_map (bindings_in store) is) ++ []) (with_tops ps []) inner)
 
 pub bodies_agree : BodiesAgree
-bodies_agree store source_map owed skipped f e given range asked r there whole c w stands =
+bodies_agree store source_map owed skipped f e given range once nothing r c w stands =
     let body = r.corresponds.1 in
-    scopes_agree store source_map given.0.0 range asked [] e r.root body.right body.second _ _
-    (same_outside store source_map given.0.0 (orderly store range asked) f.receiver [] _ given.0.1 body.first.left body.first.right
-    (all_known store given.0.1 there whole) body.first.first body.first.second) c w stands
+    let whole = named_whole store range given.0.1 once in
+    let known = all_known store given.0.1 (given_there store range given.0.1 once) (given_whole store range given.0.1 once) in
+    scopes_agree store source_map given.0.0 range whole nothing [] e r.root body.right body.second _ _
+    (same_outside store source_map given.0.0 (orderly store range whole nothing) f.receiver [] _ given.0.1 body.first.left body.first.right
+    known body.first.first body.first.second) c w stands

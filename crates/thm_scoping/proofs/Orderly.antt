@@ -12,7 +12,7 @@ use Rattle.hir_store.proofs.ChildLemmas.{children_past}
 use Rattle.hir_store.proofs.Descends.{past_member}
 use Rattle.hir_walks.specs.Exprs.{expr_constants, expr_pats, exprs_in_pat}
 use Rattle.hir_walks.specs.Pats.{AllBelow, Descends, pat_children}
-use Rattle.thm_scoping.specs.Agree.{AreWhole, BindNothing, IsWhole, Premises, pat_constants}
+use Rattle.thm_scoping.specs.Agree.{AreWhole, BindNothing, ConstantsBindNothing, IsWhole, PatternsAreWhole, pat_constants}
 use Rattle.thm_scoping.proofs.Named.{EachBelow, all_below, each_below, expr_pats_named, parts_named, target_named}
 
 module _ (store : Store) where
@@ -54,25 +54,25 @@ module _ (store : Store) (h : StoreInRange store) where
       let earlier = h.descends.exprs e.0 f found in
       each_below e.0 (children f) (omega (arith, named, earlier))
 
-  pats_descend : Descends store
+  pub pats_descend : Descends store
   pats_descend i p found =
       let named = parts_named p in
       let earlier = h.descends.pats i.0 p found in
       all_below i.0 (pat_children p) (omega (arith, named, earlier))
 
-  pats_there : (e : ExprId) (f : StoredExpr) → slice_get store.exprs e.0 ≡ Some f → AllBelow (length store.pats) (expr_pats f)
+  pub pats_there : (e : ExprId) (f : StoredExpr) → slice_get store.exprs e.0 ≡ Some f → AllBelow (length store.pats) (expr_pats f)
   pats_there e f found =
       let named = expr_pats_named f in
       let one = past_member pats_in store.exprs e.0 f found in
       let all = h.pats in
       all_below (length store.pats) (expr_pats f) (omega (arith, named, one, all))
 
-  pub orderly : Premises store → Orderly store
-  orderly asked = record {
+  pub orderly : PatternsAreWhole store → ConstantsBindNothing store → Orderly store
+  orderly whole nothing = record {
     parts = parts_below;
     targets = λ e t v found. target_named store pats_descend e.0 t (λ i p le is. h.descends.targets e.0 t v found i p le is);
     patterns = pats_descend;
-    patterns_there = λ e f found. all_known store (expr_pats f) (pats_there e f found) (asked.whole e f found);
-    constants = asked.constants;
-    constants_of_pats = asked.constants_of_pats;
+    patterns_there = λ e f found. all_known store (expr_pats f) (pats_there e f found) (whole e f found);
+    constants = nothing.in_exprs;
+    constants_of_pats = nothing.in_pats;
   }
