@@ -22,7 +22,8 @@ use Rattle.hir_scopes.specs.Chains.{Enters, Grown, InRange, IsChain, Stands, in_
 use Rattle.hir_scopes.specs.Forms.{is_block}
 use Rattle.hir_scopes.specs.Records.{HasScope, Is, Recorded, Records, SeenFrom, Walked}
 use Rattle.hir_walks.specs.Pats.{bindings_in}
-use Rattle.spec_scopes.specs.Placed.{Sees, Spot, after, after_form, after_part, in_scope, outermost, own_scopes, placed, placed_block, recorded}
+use Rattle.spec_scopes.specs.Placed.{Sees, Spot, after, after_form, after_part, in_scope, outermost, own_scopes, placed, placed_block}
+use Rattle.spec_scopes.specs.Placed.{recorded}
 use Rattle.spec_scopes.specs.Scopes.{Scopes, binding_scope, block_scope}
 use Rattle.hir_scopes.proofs.AfterLemmas.{after_is, after_none}
 use Rattle.hir_scopes.proofs.ChainLemmas.{chain_grown, grown_then, stands_grown}
@@ -146,7 +147,8 @@ outermost_chain n id end scopes is whole = (
 
 -- `self` and the parameters are entries, and then the outermost scope is opened
 module _ (store : Store) (m k l n : ScopeLists) (self_param : Option BindingId) (params : List PatId) (id : ScopeId)
-    (no_scopes : m.scopes ≡ []) (no_entries : m.entries ≡ []) (with_self : k ≡ record m { entries = m.entries ++ option_to_list self_param })
+    (no_scopes : m.scopes ≡ []) (no_entries : m.entries ≡ [])
+    (with_self : k ≡ record m { entries = m.entries ++ option_to_list self_param })
     (with_params : l ≡ record k { entries = k.entries ++ flat_map (bindings_in store) params }) (is : id.0 ≡ length l.scopes)
     (scopes : n.scopes ≡ l.scopes ++ record { parent = None; kind = kind.Bindings 0 (length l.entries) } ∷ [])
     (entries : n.entries ≡ l.entries) (by_expr : n.by_expr ≡ l.by_expr) where

@@ -31,7 +31,8 @@ module _ (store : Store) (after : ExprId → Scopes → Scopes) where
   plain_placed (hir.Let p e) x plain = no_plain plain
   plain_placed _ x plain = refl
 
-  pub plain_after : (f : Expr) (ss : Scopes) → is_plain f ≡ true → after_form store after f ss ≡ after_each store after (plain_parts store f) ss
+  pub plain_after : (f : Expr) (ss : Scopes) → is_plain f ≡ true
+      → after_form store after f ss ≡ after_each store after (plain_parts store f) ss
   plain_after (hir.Block is_unsafe label id statements tail) ss plain = no_plain plain
   plain_after (hir.Const c) ss plain = no_plain plain
   plain_after (hir.Loop b label source) ss plain = no_plain plain
@@ -68,7 +69,8 @@ module _ (store : Store) (id : ExprId) (m n : ScopeLists) (a : Around) where
   pub match_as : (b : Around) (e : ExprId) (arms others : List MatchArm) → arms ≡ others
       → Walked store id m n a (λ x. (e, x) ∷ flat_map (placed_arm store (after_part store id) (past store (after_part store id) e x)) arms)
       (past store (after_part store id) e) b
-      → Walked store id m n a (λ x. (e, x) ∷ flat_map (placed_arm store (after_part store id) (past store (after_part store id) e x)) others)
+      → Walked store id m n a
+      (λ x. (e, x) ∷ flat_map (placed_arm store (after_part store id) (past store (after_part store id) e x)) others)
       (past store (after_part store id) e) b
   match_as b e arms others same walked =
       subst (λ es. Walked store id m n a

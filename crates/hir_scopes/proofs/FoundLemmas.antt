@@ -17,7 +17,8 @@ use Rattle.hir_scopes.specs.Bounds.{ScopeLists}
 use Rattle.hir_scopes.specs.Chains.{IsChain, scope_of}
 use Rattle.hir_scopes.specs.Lookup.{is_binding_for, is_entry_for, or_else, past_def}
 use Rattle.hir_scopes.specs.Parts.{entries_in, macro_def_in, parent_in}
-use Rattle.spec_scopes.specs.Scopes.{NameScope, Scopes, binding_rib, binding_ribs, binding_scope, block_scope, loop_scope, macro_def_scope, ribs_of}
+use Rattle.spec_scopes.specs.Scopes.{NameScope, Scopes, binding_rib, binding_ribs, binding_scope, block_scope, loop_scope, macro_def_scope}
+use Rattle.spec_scopes.specs.Scopes.{ribs_of}
 
 module _ (store : Store) (contexts : Contexts) (name : Name) (s : Sought) where
   abbrev seek : List (Rib BindingId) → Target BindingId
@@ -55,7 +56,8 @@ module _ (store : Store) (contexts : Contexts) (name : Name) (s : Sought) where
   rest_of found def zs = or_else found (search contexts name (past_def contexts s def) (ribs_of store zs))
 
   scope_kind : (bs : List BindingId) (k : ScopeKind) (p : Option ScopeId) (zs : Scopes) (found : Option BindingId)
-      → ((rs : List (Rib BindingId)) → seek (binding_ribs store (entries_in bs (Some (record { parent = p; kind = k }))) ++ rs) ≡ or_else found (seek rs))
+      → ((rs : List (Rib BindingId))
+      → seek (binding_ribs store (entries_in bs (Some (record { parent = p; kind = k }))) ++ rs) ≡ or_else found (seek rs))
       → seek (ribs_of store (scope_of bs k ∷ zs)) ≡ rest_of found (macro_def_in (Some (record { parent = p; kind = k }))) zs
   scope_kind bs (kind.Bindings start end) p zs found look = look (ribs_of store zs)
   scope_kind bs (kind.Block id label) p zs found look = look (ribs_of store zs)

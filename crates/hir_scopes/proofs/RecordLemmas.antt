@@ -116,7 +116,8 @@ module _ (store : Store) where
       same_scope : (t : ScopeId) → Some (Some s) ≡ Some (Some t) → s ≡ t
       same_scope t is = grind (arith, is)
 
-      set_at : (e : ExprId) (y : Spot) → Is r x e y → e.0 < length m.by_expr → slice_get (slice_set m.by_expr r.0 (Some s)) e.0 ≡ Some (Some s)
+      set_at : (e : ExprId) (y : Spot) → Is r x e y → e.0 < length m.by_expr
+          → slice_get (slice_set m.by_expr r.0 (Some s)) e.0 ≡ Some (Some s)
       set_at _ _ it_is less = get_at_set m.by_expr r.0 (Some s) less
 
   at_itself : (r : ExprId) (x : Spot) (e : ExprId) (y : Spot) → Is r x e y → Sees store r x e y

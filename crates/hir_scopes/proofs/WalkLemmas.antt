@@ -115,7 +115,8 @@ module _ (store : Store) (w : ExprId) where
   pub recorded_enter : (m n o : ScopeLists) (a r : Around) (inner : Spot → Spot) (ps : Spot → Placed) → Grown n o
       → Enters m n a inner r → Recorded store w n o r ps → Recorded store w m o a (λ x. ps (inner x))
   recorded_enter m n o a r inner ps grown enters recorded =
-      λ x stands. records_before store m n o (SeenFrom store w (ps (inner x))) grown enters.by_expr (recorded (inner x) (enters.inside x stands))
+      λ x stands. records_before store m n o (SeenFrom store w (ps (inner x))) grown enters.by_expr
+      (recorded (inner x) (enters.inside x stands))
 
   pub walked_enter : (m n o : ScopeLists) (a b r : Around) (inner : Spot → Spot) (ps : Spot → Placed) (f : Spot → Spot)
       → Walked store w m n a ps f b → Enters n o b inner r → Walked store w m o a ps (λ x. inner (f x)) r
@@ -189,7 +190,8 @@ module _ (store : Store) (w : ExprId) where
       )
 
   pub each_end : (n : ScopeLists) (b : Around) (left : List ExprId) (y : Spot) → left ≡ [] → Stands n b y
-      → Walks store w n n b (placed_each store (after_part store w) left y) (in_scope y (after_each store (after_part store w) left y.names))
+      → Walks store w n n b (placed_each store (after_part store w) left y)
+      (in_scope y (after_each store (after_part store w) left y.names))
   each_end n b left y is stands =
       subst (λ es. Walks store w n n b (placed_each store (after_part store w) es y)
       (in_scope y (after_each store (after_part store w) es y.names))) (sym is) (walks_none n b y stands)

@@ -73,7 +73,8 @@ decreases-compute::part l = 8 * l.whole.0
 
 abbrev pub invariant-compute::each_part-loop-left : goal.invariant-compute::each_part-loop-left
 invariant-compute::each_part-loop-left l = Kept l.fn.scopes l.scopes l.behind
-    × ((x : Spot) → Stands l.fn.scopes l.fn.around x → (y : Spot) × Stands l.scopes l.behind y × ((o : ScopeLists) (r : Around) → Grown l.scopes o
+    × ((x : Spot) → Stands l.fn.scopes l.fn.around x → (y : Spot) × Stands l.scopes l.behind y
+    × ((o : ScopeLists) (r : Around) → Grown l.scopes o
     → Walks l.store l.whole l.scopes o r (placed_each l.store (after_part l.store l.whole) l.left y)
     (in_scope y (after_each l.store (after_part l.store l.whole) l.left y.names))
     → Walks l.store l.whole l.fn.scopes o r (placed_each l.store (after_part l.store l.whole) l.fn.left x)
