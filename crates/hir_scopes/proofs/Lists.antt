@@ -1,9 +1,20 @@
 -- Lists that grow at the end, and in which one place is written.
-use Rattle.std.proofs.Common.{arith, ◌≡◌, ◌⊎◌, ◌∙◌, inl, inr, refl, ap, ◌<◌, ◌≤◌, ◌-◌, ℕ, zero, suc, List, [], ◌∷◌, ◌++◌, Some}
-use Rattle.std.proofs.Common.{length, take, drop, slice_get, slice_set, length-append, length-drop}
+use Rattle.std.proofs.Common.{arith, ◌≡◌, ◌⊎◌, ◌∙◌, inl, inr, refl, sym, ap, ◌<◌, ◌≤◌, ◌-◌, ℕ, zero, suc, List, [], ◌∷◌, ◌++◌}
+use Rattle.std.proofs.Common.{Some, get_or, length, take, drop, slice_get, slice_set, length-append, length-drop}
 use Rattle.std.proofs.lemmas.List.{drop-append-le, take-append-le, take_all}
 use Rattle.std.proofs.lemmas.Option.{slice_get_within}
 use Rattle.std.specs.List.{flat_map}
+
+-- a list that has a first one, and one that has none
+pub first_and_rest : {A : Type 0} (xs : List A) (x : A) → 1 ≤ length xs → xs ≡ get_or xs 0 x ∷ take (length xs - 1) (drop 1 xs)
+first_and_rest [] x some = absurd (omega (arith, some))
+first_and_rest (y ∷ ys) x some =
+    let rest : length (y ∷ ys) - 1 ≡ length ys = omega arith in
+    sym (ap (λ n. y ∷ take n ys) rest ∙ ap (λ zs. y ∷ zs) (take_all (length ys) ys (omega arith)))
+
+pub no_first : {A : Type 0} (xs : List A) → length xs < 1 → xs ≡ []
+no_first [] none = refl
+no_first (y ∷ ys) none = absurd (omega (arith, none))
 
 get_left : {A : Type 0} (xs ys : List A) (n : ℕ) → n < length xs → slice_get (xs ++ ys) n ≡ slice_get xs n
 get_left [] ys n less = absurd (omega (arith, less))

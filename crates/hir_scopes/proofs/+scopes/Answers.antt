@@ -1,13 +1,14 @@
 -- Each function records what its steps record.
-use Rattle.std.proofs.Common.{rules, ap, subst, sym, ◌∙◌, ◌∷◌, [], Some}
+use Rattle.std.proofs.Common.{arith, rules, ap, subst, sym, ◌∙◌, ◌∷◌, [], Some}
 use Rattle.std.specs.List.{flat_map}
 use Rattle.spec_scopes.specs.Placed.{after_part, in_constant, past, past_option, placed, placed_arm, placed_guarded}
-use Rattle.spec_scopes.specs.Placed.{after_form, in_scope, past_statement, placed_option, placed_statement}
+use Rattle.spec_scopes.specs.Placed.{after_form, in_scope, past_statement, placed_branch, placed_option, placed_statement}
 use Rattle.spec_scopes.specs.Scopes.{binding_scope, loop_scope, pat_scope, pats_scope}
 use Rattle.hir_scopes.proofs.ChainLemmas.{enters_names, grown_same, grown_then, stands_grown}
 use Rattle.hir_scopes.proofs.ExprLemmas.{block_behind, block_recorded, block_whole, form_behind, form_recorded, grown_equal}
 use Rattle.hir_scopes.proofs.ExprLemmas.{none_behind, none_recorded}
 use Rattle.hir_scopes.proofs.FormLemmas.{closure_as, match_as, plain_walked}
+use Rattle.hir_scopes.proofs.Lists.{first_and_rest, no_first}
 use Rattle.hir_scopes.proofs.WalkLemmas.{arms_end, arms_next, block_end, block_next, each_end, each_next, kept_back, kept_then}
 use Rattle.hir_scopes.proofs.WalkLemmas.{recorded_constant, recorded_enter, recorded_of, recorded_then, walked_back, walked_beside}
 use Rattle.hir_scopes.proofs.WalkLemmas.{walked_enter, walked_inner, walked_last, walked_then, walks_none}
@@ -57,12 +58,13 @@ blocks::compute_block_scopes-loop-left-preserved t c =
     let m = c.args.scopes.now in
     let n = c.loop-left.scopes in
     let o = c.statement_scopes.new.scopes in
+    let left = c.loop-left.left.now in
     let grown = c.in_ok-behind.ensures.kept.grown in (
       kept_then m n o b d c.loop-left.invariant.0 c.in_ok-behind.ensures.kept,
       λ x stands.
           let at = c.loop-left.invariant.1 x stands in
-          let next = block_next store w n o b d c.loop-left.left.now _ _ c.args.tail (search rules) grown c.in_ok-behind.ensures.walked
-          at.0 at.1 in (
+          let next = block_next store w n o b d left _ _ c.args.tail (first_and_rest left _ c.in-len1-up.len_at_least)
+          grown c.in_ok-behind.ensures.walked at.0 at.1 in (
             _,
             next.0,
             λ q more records. at.2 q (grown_then n o q grown more) (next.1 q more records),
@@ -137,20 +139,22 @@ branches::arms_scopes-loop-left-preserved t c =
     let m = c.args.scopes.now in
     let n = c.loop-left.scopes in
     let o = c.arm_scopes.new.scopes in
+    let left = c.loop-left.left.now in
     let arm = c.in_ok-arm_scopes.ensures in (
       grown_then m n o c.loop-left.invariant.0 arm.grown,
       λ x stands q more records.
           let first = arm.recorded x (stands_grown m n a x c.loop-left.invariant.0 stands) in
           c.loop-left.invariant.1 x stands q (grown_then n o q arm.grown more)
-          (arms_next store w n o x c.loop-left.left.now _ _ (search rules) first q more records),
+          (arms_next store w n o x left _ _ (first_and_rest left _ c.in-len1-up.len_at_least) first q more records),
     )
 
 pub branches::arms_scopes-returns-clause-recorded : goal.branches::arms_scopes-returns-clause-recorded
 branches::arms_scopes-returns-clause-recorded t c =
     let n = c.loop-left.scopes in
+    let left = c.loop-left.left.now in
     λ x stands.
     c.loop-left.invariant.1 x stands n (grown_same n)
-    (arms_end c.args.store.now c.args.whole n x c.loop-left.left.now (search rules))
+    (arms_end c.args.store.now c.args.whole n x left (no_first left (omega arith)))
 
 pub branches::match_scopes-returns-clause-walked : goal.branches::match_scopes-returns-clause-walked
 branches::match_scopes-returns-clause-walked t c =
@@ -179,7 +183,9 @@ branches::if_scopes-returns-clause-walked t c =
     let second = c.in_ok-part.ensures in
     let third = c.in_ok-behind_else.ensures in
     let both = grown_then n o q first.kept.grown second.kept.grown in
-    walked_last store w m q c.part_option.new.scopes a c.in_ok-behind_else.behind_else _ (placed_option store after c.args.else_branch) _
+    walked_last store w m q c.part_option.new.scopes a c.in_ok-behind_else.behind_else
+    (λ x. placed_branch store after condition branch (in_scope x (binding_scope [] ∷ x.names)))
+    (placed_option store after c.args.else_branch) _
     (grown_then m n q c.in_ok-scope.ensures.grown both) third.kept.grown
     (recorded_enter store w m n q a _ _ (λ x. (condition, x) ∷ (branch, past store after condition x) ∷ []) both
     (enters_names m n a c.in_ok-scope.scope (binding_scope []) c.requires c.in_ok-scope.ensures)
@@ -254,11 +260,13 @@ compute::each_part-loop-left-preserved t c =
     let m = c.args.scopes.now in
     let n = c.loop-left.scopes in
     let o = c.part.new.scopes in
+    let left = c.loop-left.left.now in
     let grown = c.in_ok-behind.ensures.kept.grown in (
       kept_then m n o b d c.loop-left.invariant.0 c.in_ok-behind.ensures.kept,
       λ x stands.
           let at = c.loop-left.invariant.1 x stands in
-          let next = each_next store w n o b d c.loop-left.left.now _ _ (search rules) grown c.in_ok-behind.ensures.walked at.0 at.1 in (
+          let next = each_next store w n o b d left _ _ (first_and_rest left _ c.in-len1-up.len_at_least) grown
+          c.in_ok-behind.ensures.walked at.0 at.1 in (
             _,
             next.0,
             λ q r more walks. at.2 q r (grown_then n o q grown more) (next.1 q r more walks),
@@ -269,9 +277,10 @@ pub compute::each_part-returns-clause-walked : goal.compute::each_part-returns-c
 compute::each_part-returns-clause-walked t c =
     let n = c.loop-left.scopes in
     let b = c.loop-left.behind in
+    let left = c.loop-left.left.now in
     λ x stands.
     let at = c.loop-left.invariant.1 x stands in
-    at.2 n b (grown_same n) (each_end c.args.store.now c.args.whole n b c.loop-left.left.now at.0 (search rules) at.1)
+    at.2 n b (grown_same n) (each_end c.args.store.now c.args.whole n b left at.0 (no_first left (omega arith)) at.1)
 
 pub compute::plain_scopes-returns-clause-walked : goal.compute::plain_scopes-returns-clause-walked
 compute::plain_scopes-returns-clause-walked t c =
@@ -303,7 +312,7 @@ pub compute::expr_scopes-returns-in_ok-block_scopes-in-Block-clause-recorded
     : goal.compute::expr_scopes-returns-in_ok-block_scopes-in-Block-clause-recorded
 compute::expr_scopes-returns-in_ok-block_scopes-in-Block-clause-recorded t c =
     λ x stands.
-    block_whole c.args.store.now c.args.scopes.now c.block_scopes.new.scopes c.args.id _ _ _ _ _ _ x
+    block_whole c.args.store.now c.args.scopes.now c.block_scopes.new.scopes c.args.id _ _ _ c.as_slice.result.now _ _ x
     (c.requires.is_there ∙ ap Some c.in-Block.is) (search rules) (c.in_ok-block_scopes-in-Block.ensures.recorded x stands)
 
 pub compute::expr_scopes-returns-in_ok-block_scopes-in-Block-clause-behind
