@@ -18,6 +18,11 @@ flat_last f [] x = append-nil (f x)
 flat_last f (y ∷ xs) x = ap (λ zs. f y ++ zs) (flat_last f xs x) ∙ sym (append_assoc (f y) (flat_map f xs) (f x))
 
 module _ (store : Store) where
+  one_part : (d n : ℕ) (e c : ExprId) (t : Bool) → nat_lt c.0 e.0 ≡ t → (c.0 < e.0 → exprs_to store d c ≡ exprs_to store n c)
+      → (if t then exprs_to store d c else []) ≡ (if t then exprs_to store n c else [])
+  one_part d n e c true below same = let inside : c.0 < e.0 = grind (arith, nat_tests) in same inside
+  one_part d n e c false below same = refl
+
   -- more levels change nothing
   deeper : (d n : ℕ) (e : ExprId) → e.0 < d → e.0 < n → exprs_to store d e ≡ exprs_to store n e
   unfolding exprs_to
@@ -26,14 +31,8 @@ module _ (store : Store) where
   deeper (suc d) (suc n) e less more =
       ap (λ es. e ∷ es)
       (flat_same (if_below store e (exprs_to store d)) (if_below store e (exprs_to store n)) (parts_of store e)
-      (λ c. by c (nat_lt c.0 e.0) refl))
-    where
-      by : (c : ExprId) (t : Bool) → nat_lt c.0 e.0 ≡ t
-          → (if t then exprs_to store d c else []) ≡ (if t then exprs_to store n c else [])
-      by c true below =
-          let inside : c.0 < e.0 = grind (arith, nat_tests) in
-          deeper d n c (omega (arith, inside, less)) (omega (arith, inside, more))
-      by c false below = refl
+      (λ c. one_part d n e c (nat_lt c.0 e.0) refl
+      (λ inside. deeper d n c (omega (arith, inside, less)) (omega (arith, inside, more)))))
 
   -- the expression, and then all inside its parts
   first_then_parts : (e : ExprId) → exprs_in store e ≡ e ∷ flat_map (if_below store e (exprs_in store)) (parts_of store e)
@@ -41,13 +40,7 @@ module _ (store : Store) where
   first_then_parts e =
       ap (λ es. e ∷ es)
       (flat_same (if_below store e (exprs_to store e.0)) (if_below store e (exprs_in store)) (parts_of store e)
-      (λ c. by c (nat_lt c.0 e.0) refl))
-    where
-      by : (c : ExprId) (t : Bool) → nat_lt c.0 e.0 ≡ t
-          → (if t then exprs_to store e.0 c else []) ≡ (if t then exprs_in store c else [])
-      by c true below =
-          let inside : c.0 < e.0 = grind (arith, nat_tests) in deeper e.0 (suc c.0) c inside (omega arith)
-      by c false below = refl
+      (λ c. one_part e.0 (suc c.0) e c (nat_lt c.0 e.0) refl (λ inside. deeper e.0 (suc c.0) c inside (omega arith))))
 
   pub left_last : (es : List ExprId) (e : ExprId) → flat_map (exprs_in store) (reverse (es ++ e ∷ []))
       ≡ exprs_in store e ++ flat_map (exprs_in store) (reverse es)

@@ -16,6 +16,6 @@ pub returns : goal.returns
 returns c =
     λ e reads.
     let within = reads_within c.args.store.now c.args.scopes.now e reads in
-    let all : e.0 < c.exprs_len-number-end.result = omega (arith, within, c.exprs_len-number-end.ensures) in
+    let all : e.0 < c.loop-number.number = omega (arith, within, c.exprs_len-number-end.ensures, c.loop-number-test.false) in
     let it = c.loop-number.invariant e all reads in
     (it.0, Contains-permutation _ _ (it.0, e) c.sort_unstable.ensures.permutation it.1)
