@@ -1,4 +1,4 @@
-mod Calls
 mod Read
+mod Results
 mod Sent
 mod SoFar
