@@ -1,4 +1,3 @@
 mod Read
-mod Results
 mod Sent
 mod SoFar

@@ -42,6 +42,6 @@ pub refused : IsLineOf (answer.Fault failure.Memory detail.Nothing) (codes "{\"f
 unfolding serde_json_on_literals digits
 refused = (
   codes "{\"fault\":{\"status\":3,\"text\":\"refused: memory\"}}",
-  (fault_data 3 (codes "refused: memory") detail.Nothing, (codes "refused: memory", refl), refl, refl),
+  (fault_data 3 (codes "refused: memory") detail.Nothing, (codes "refused: memory", refl), (refl, refl)),
   refl,
 )

@@ -3,12 +3,11 @@ use Rattle.std.specs.Prelude.{◌≡◌, ℕ, List, [], ◌∷◌, ◌++◌, cod
 use Rattle.serde_json.specs.Data.{Data, Members, object, member, no_members, number, string, unsigned}
 use Rattle.serde_json.specs.Read.{read}
 use Rattle.serde_json.specs.Written.{compact_text}
-use Rattle.thm_result_json.specs.Results as forms
 use Rattle.lower_run.specs.Answers.{FailsWith, SaysSome}
+use Rattle.lower_run.specs.Lowered.{IsLoweredTo}
 use Rattle.lower_run.specs.Statuses.{status_of}
-use Rattle.lower_run.specs.declared.results.LoweringResult.{LoweringResult}
-use Rattle.lower_run.specs.declared.results.LoweringResult.TheVariants as lowered
 use Rattle.lower_run.specs.declared.mode.Mode.{Mode}
+use Rattle.lower_results.specs.Results.{result_data}
 use Rattle.lower_lines.specs.declared.answer.Answer.{Answer}
 use Rattle.lower_lines.specs.declared.answer.Answer.TheVariants as answer
 use Rattle.lower_lines.specs.declared.call.Form.{Form}
@@ -17,10 +16,10 @@ use Rattle.lower_lines.specs.declared.detail.Detail.{Detail}
 use Rattle.lower_lines.specs.declared.detail.Detail.TheVariants as detail
 use Rattle.lower_lines.specs.declared.detail.Member.{Member}
 
--- it is what came of a line as a document, in the form that was asked for
+-- It is what came of a line as a document, in the form that was asked for: a listing of a document, all that it is lowered to, or its fault.
 abbrev pub IsAnswerTo : Mode → Form → List ℕ → Answer → Type 0
 IsAnswerTo mode f line (answer.Listing text) = (f ≡ form.Listing) × SaysSome mode line
-IsAnswerTo mode f line (answer.Json l) = (f ≡ form.Json) × SaysSome mode line
+IsAnswerTo mode f line (answer.Json l) = (f ≡ form.Json) × IsLoweredTo mode line l
 IsAnswerTo mode f line (answer.Fault failure d) = FailsWith mode line failure
 
 -- the status with which a single call for the document ends
@@ -28,15 +27,6 @@ abbrev pub status_of_answer : Answer → ℕ
 status_of_answer (answer.Listing text) = 0
 status_of_answer (answer.Json l) = 0
 status_of_answer (answer.Fault failure d) = status_of failure
-
--- all that a document is lowered to
-abbrev pub result_data : LoweringResult → Data
-result_data (lowered.Body b) =
-    (forms.body).to (b.body.store, b.source_map.store, b.body.params, b.body.self_param, b.source_map.self_param)
-result_data (lowered.Path p) = (forms.path_result).to (p.store, p.source_map, p.path)
-result_data (lowered.Type_ t) = (forms.type_result).to (t.store, t.source_map, t.type_ref)
-result_data (lowered.Function f) =
-    (forms.function).to (f.store, f.source_map, f.generic_params, f.args, f.ret, f.has_self, f.has_variadic)
 
 -- the status and the text of a single call
 abbrev pub fault_members : ℕ → List ℕ → Members

@@ -101,7 +101,14 @@ impl Answer {
 fn listing_text(alloc: Global, listing: &str) -> Result<String, AllocError>
     ensures { IfOk result (λ s. IsJson (ok_data (string listing.now)) (string_bytes s)) }
 {
-    json!(in alloc; {"ok": listing})?.to_string(alloc)
+    listing_json(alloc, listing)?.to_string(alloc)
+}
+
+/// What has a listing.
+fn listing_json(alloc: Global, listing: &str) -> Result<Value, AllocError>
+    ensures { IfOk result (λ v. view v ≡ ok_data (string listing.now)) }
+{
+    json!(in alloc; {"ok": listing})
 }
 
 /// The answer that says why there is no result.

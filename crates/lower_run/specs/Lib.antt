@@ -1,3 +1,4 @@
 pub mod Statuses
 pub mod Words
 pub mod Answers
+pub mod Lowered

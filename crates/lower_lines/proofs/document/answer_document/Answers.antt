@@ -7,7 +7,7 @@ use Rattle.lower_lines.proofs.document.answer_document.Goals as goal
 
 pub returns-in-Ok-clause-answered : goal.returns-in-Ok-clause-answered
 returns-in-Ok-clause-answered g c =
-    sent_text _ _ _ _ _ _ _ _ c.of.ensures c.in-Ok.ensures c.as_str.ensures.value c.status.ensures c.in_ok-send.ensures.sent
+    sent_text _ _ _ _ _ _ _ _ c.of-answer.ensures c.in-Ok.ensures c.as_str.ensures.value c.status.ensures c.in_ok-send.ensures.sent
 
 pub returns-clause-answered : goal.returns-clause-answered
 returns-clause-answered g c =
