@@ -1,9 +1,9 @@
 -- What a document is lowered to, as JSON.
 use Rattle.std.specs.Prelude.{◌≡◌, ℕ, List, Option, Some, None}
 use Rattle.serde_json.specs.Written.{compact_text}
-use Rattle.lower_run.specs.Lowered.{IsLoweredTo}
 use Rattle.lower_run.specs.declared.mode.Mode.{Mode}
 use Rattle.lower_run.specs.declared.results.LoweringResult.{LoweringResult}
+use Rattle.lower_results.specs.Lowered.{IsLoweredTo}
 use Rattle.lower_results.specs.Results.{result_data}
 
 -- The text is the JSON of all that the document is lowered to in the mode that is asked for. It reads back as that

@@ -4,10 +4,10 @@ ghost use Rattle.std.specs.Prelude.{◌≡◌, IfOk, string_bytes};
 ghost use Rattle.lower_c.specs.Answers.{mode_of, CameOfCall};
 ghost use Rattle.lower_c.specs.Results.{IsResult};
 
-use lower_results::result_json;
+use lower_results::{lowered_among_many, result_json};
 use lower_run::failure::Failure;
 use lower_run::mode::Mode;
-use lower_run::run::{listing_among_many, lowered_among_many};
+use lower_run::run::listing_among_many;
 use std::alloc::Global;
 
 /// The mode with a number.

@@ -4,9 +4,9 @@ use Rattle.serde_json.specs.Data.{Data, Members, object, member, no_members, num
 use Rattle.serde_json.specs.Read.{read}
 use Rattle.serde_json.specs.Written.{compact_text}
 use Rattle.lower_run.specs.Answers.{FailsWith, SaysSome}
-use Rattle.lower_run.specs.Lowered.{IsLoweredTo}
 use Rattle.lower_run.specs.Statuses.{status_of}
 use Rattle.lower_run.specs.declared.mode.Mode.{Mode}
+use Rattle.lower_results.specs.Lowered.{IsLoweredTo}
 use Rattle.lower_results.specs.Results.{result_data}
 use Rattle.lower_lines.specs.declared.answer.Answer.{Answer}
 use Rattle.lower_lines.specs.declared.answer.Answer.TheVariants as answer

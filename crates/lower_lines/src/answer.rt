@@ -9,10 +9,11 @@ ghost use Rattle.lower_lines.specs.Answers.{IsAnswerTo, IsJson, IsLineOf, IsText
 use crate::call::Form;
 use crate::detail::Detail;
 use crate::result::result_text;
+use lower_results::lowered_among_many;
 use lower_run::failure::Failure;
 use lower_run::mode::Mode;
 use lower_run::results::LoweringResult;
-use lower_run::run::{listing_among_many, lowered_among_many};
+use lower_run::run::listing_among_many;
 use serde_json::{Value, json};
 use std::alloc::{AllocError, Global};
 

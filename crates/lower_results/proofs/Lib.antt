@@ -1,1 +1,2 @@
+mod Lowered
 pub mod Results

@@ -1,3 +1,2 @@
 mod Calls
 pub mod Listed
-mod Lowered

@@ -1,4 +1,3 @@
 pub mod Statuses
 pub mod Words
 pub mod Answers
-pub mod Lowered

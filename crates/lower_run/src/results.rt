@@ -1,9 +1,5 @@
 //! What a document is lowered to: all that the call of `hir_lower` answered that its mode makes.
 
-ghost use Rattle.std.specs.Prelude.{◌≡◌, IfOk, option_copied};
-ghost use Rattle.lower_run.specs.Lowered.{IsBody, IsFunction, IsItem, IsLoweredBy, IsPath, IsType};
-ghost use Rattle.lower_run.specs.Lowered.{body_of_item, body_of_pat, item_of_function, type_alone};
-
 use crate::mode::Mode;
 use hir_base::Seq;
 use hir_base::node::{AstPtr, HirFileId, InFile};
@@ -66,27 +62,19 @@ pub enum LoweringResult {
     Function(LoweredFunction),
 }
 
-/// The body that is written in a function.
-fn body_in(item: &Fn) -> Option<&ast::Expr>
-    ensures { option_copied result ≡ item.now.body }
-{
-    match &item.body {
-        Some(body) => Some(body.get()),
-        None => None,
-    }
-}
-
 pub(crate) fn lowered_body<E: LowerEnv>(
     alloc: Global,
     document: &Document,
     env: &E,
     item: &Fn,
-) -> Result<LoweredBody, LowerError>
-    ensures { IfOk result (IsBody (body_of_item (E.answers env.now) document.now.owner item.now)) }
-{
+) -> Result<LoweredBody, LowerError> {
     let node = AstPtr {
         node: item.id,
         range: item.range,
+    };
+    let body = match &item.body {
+        Some(body) => Some(body.get()),
+        None => None,
     };
     let (body, source_map) = lower_body(
         alloc,
@@ -96,7 +84,7 @@ pub(crate) fn lowered_body<E: LowerEnv>(
         HirFileId(0),
         ModuleId(0),
         item.params.as_ref(),
-        body_in(item),
+        body,
         item.async_,
         item.gen_,
     )?;
@@ -108,9 +96,7 @@ pub(crate) fn lowered_pat<E: LowerEnv>(
     alloc: Global,
     env: &E,
     params: &ParamList,
-) -> Result<LoweredBody, LowerError>
-    ensures { IfOk result (IsBody (body_of_pat (E.answers env.now) params.now)) }
-{
+) -> Result<LoweredBody, LowerError> {
     let node = AstPtr {
         node: params.id,
         range: params.range,
@@ -135,9 +121,7 @@ pub(crate) fn lowered_path<E: LowerEnv>(
     document: &Document,
     env: &E,
     path: &ast::Path,
-) -> Result<LoweredPath, LowerError>
-    ensures { IfOk result (IsPath (E.answers env.now) document.now.mode path.now) }
-{
+) -> Result<LoweredPath, LowerError> {
     let mut collector = ExprCollector::new(alloc, env, ModuleId(0), HirFileId(0), document.mode);
     let path = collector.lower_path(path, &mut ErrorImplTrait)?;
     let (store, source_map) = collector.into_store()?;
@@ -153,9 +137,7 @@ pub(crate) fn lowered_type<E: LowerEnv>(
     alloc: Global,
     env: &E,
     ty: Option<&ast::Type_>,
-) -> Result<LoweredType, LowerError>
-    ensures { IfOk result (IsType (type_alone (E.answers env.now) (option_copied ty.entry))) }
-{
+) -> Result<LoweredType, LowerError> {
     let written = InFile {
         file_id: HirFileId(0),
         value: ty,
@@ -172,9 +154,7 @@ pub(crate) fn lowered_function<E: LowerEnv>(
     alloc: Global,
     env: &E,
     item: &Fn,
-) -> Result<LoweredFunction, LowerError>
-    ensures { IfOk result (IsFunction (item_of_function (E.answers env.now) item.now)) }
-{
+) -> Result<LoweredFunction, LowerError> {
     let written = InFile {
         file_id: HirFileId(0),
         value: item,
@@ -204,14 +184,10 @@ fn lowered_item<E: LowerEnv>(
     document: &Document,
     env: &E,
     item: &Fn,
-) -> Result<LoweringResult, LowerError>
-    ensures { IfOk result (IsItem mode (E.answers env.now) document.now.owner item.now) }
-{
+) -> Result<LoweringResult, LowerError> {
     match mode {
         Mode::Fn => Ok(LoweringResult::Function(lowered_function(alloc, env, item)?)),
-        Mode::Path | Mode::Type_ | Mode::Pat | Mode::Body => {
-            Ok(LoweringResult::Body(lowered_body(alloc, document, env, item)?))
-        }
+        _ => Ok(LoweringResult::Body(lowered_body(alloc, document, env, item)?)),
     }
 }
 
@@ -221,9 +197,7 @@ pub fn lowered_tree<E: LowerEnv>(
     mode: Mode,
     document: &Document,
     env: &E,
-) -> Result<LoweringResult, LowerError>
-    ensures { IfOk result (IsLoweredBy mode (E.answers env.now) document.now) }
-{
+) -> Result<LoweringResult, LowerError> {
     match &document.tree {
         Tree::Fn(item) => lowered_item(alloc, mode, document, env, item),
         Tree::Path(path) => Ok(LoweringResult::Path(lowered_path(alloc, document, env, path)?)),

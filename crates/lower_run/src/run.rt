@@ -3,11 +3,9 @@
 //! A process that lowers one document has no other work, so it doesn't drop what it read and lowered, which would take a fifth of it. One
 //! that lowers many drops all of it after each.
 
-ghost use Rattle.std.specs.Prelude.{◌≡◌, ◌⊎◌, IfErr, IfOk, None, OnOk, List, ℕ};
+ghost use Rattle.std.specs.Prelude.{◌≡◌, ◌⊎◌, IfErr, None, List, ℕ};
 ghost use Rattle.lower_run.specs.Words.{called};
-ghost use Rattle.hir_tables.specs.Tables.{answers_of};
 ghost use Rattle.lower_run.specs.Answers.{CameOf, ResolvedTree, ReadsIn, SaysSome};
-ghost use Rattle.lower_run.specs.Lowered.{IsLowered, IsLoweredTo, IsSignature, WithAliases, item_of_alias};
 ghost use Rattle.std.specs.Io.KnownBytes.{Appends};
 
 use crate::disposal::Disposal;
@@ -15,8 +13,7 @@ use crate::failure::Failure;
 use crate::input::read_all;
 use crate::mode::Mode;
 use crate::results::{
-    LoweredFunction, LoweringResult, lowered_body, lowered_function, lowered_pat, lowered_path,
-    lowered_tree, lowered_type,
+    LoweredFunction, lowered_body, lowered_function, lowered_pat, lowered_path, lowered_type,
 };
 use hir_alias::signature::AliasSignature;
 use hir_base::node::{HirFileId, InFile};
@@ -184,9 +181,7 @@ fn lowered_alias(
     alloc: Global,
     env: &TableEnv,
     alias: &Alias,
-) -> Result<AliasSignature, LowerError>
-    ensures { IfOk result (IsSignature (item_of_alias (answers_of env.now) alias.now)) }
-{
+) -> Result<AliasSignature, LowerError> {
     let container = ItemContainerId::ModuleId(ModuleId(0));
     let written = InFile {
         file_id: HirFileId(0),
@@ -206,14 +201,11 @@ fn lowered_alias(
 /// Lowers the aliases, and tells the environment what they are. Of those with one number the first counts. None of them asks about
 /// another.
 fn add_aliases(alloc: Global, env: &mut TableEnv, aliases: &[Alias]) -> Result<(), Failure>
-    ensures added { OnOk result (WithAliases env.old aliases.now env.new) }
-    ensures err { IfErr result (λ e. (e ≡ Failure.Memory) ⊎ (e ≡ Failure.Full)) }
+    ensures { IfErr result (λ e. (e ≡ Failure.Memory) ⊎ (e ≡ Failure.Full)) }
 {
-    let mut left = aliases;
-    while let [alias, rest @ ..] = left {
+    for alias in aliases {
         let signature = lowered_alias(alloc, env, alias)?;
         env.set_alias(alias.id, signature)?;
-        left = rest;
     }
     Ok(())
 }
@@ -275,19 +267,6 @@ fn lowered_listing<L: Lists>(
     lists.listing(alloc, mode, document)
 }
 
-/// What a document is lowered to, of which first the aliases are.
-fn lowered_document(
-    alloc: Global,
-    mode: Mode,
-    document: &mut Document,
-) -> Result<LoweringResult, Failure>
-    ensures lowered { IfOk result (IsLowered mode document.old) }
-    ensures err { IfErr result (λ e. (e ≡ Failure.Memory) ⊎ (e ≡ Failure.Full)) }
-{
-    add_aliases(alloc, &mut document.env, document.aliases.as_slice())?;
-    Ok(lowered_tree(alloc, mode, document, &document.env)?)
-}
-
 /// What is listed of the document that a text is in a mode.
 fn listing<L: Lists>(alloc: Global, lists: &L, mode: Mode, text: &[u8]) -> Result<String, Failure>
     ensures { CameOf mode text.now result }
@@ -306,17 +285,6 @@ pub fn listing_among_many(alloc: Global, mode: Mode, text: &[u8]) -> Result<Stri
     let listed = lowered_listing(alloc, &AmongMany, mode, &mut document);
     drop(document);
     listed
-}
-
-/// What the document that a text is in a mode is lowered to, for a process that has more to do: all that was read is dropped.
-pub fn lowered_among_many(alloc: Global, mode: Mode, text: &[u8]) -> Result<LoweringResult, Failure>
-    ensures came { CameOf mode text.now result }
-    ensures lowered { IfOk result (IsLoweredTo mode text.now) }
-{
-    let mut document = read_tree(alloc, mode.root(), text)?;
-    let lowered = lowered_document(alloc, mode, &mut document);
-    drop(document);
-    lowered
 }
 
 /// What is listed of what stands in the input. The words are judged before the input is read.

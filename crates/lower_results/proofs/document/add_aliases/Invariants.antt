@@ -1,7 +1,7 @@
 use Rattle.std.proofs.Common.{length}
 use Rattle.hir_tables.specs.Tables.{Tables}
-use Rattle.lower_run.specs.Lowered.{WithAliases}
-use Rattle.lower_run.proofs.run.add_aliases.Given as goal
+use Rattle.lower_results.specs.Lowered.{WithAliases}
+use Rattle.lower_results.proofs.document.add_aliases.Given as goal
 
 -- what is said of the others behind this is said of all behind what stood there first
 abbrev pub invariant-loop-left : goal.invariant-loop-left

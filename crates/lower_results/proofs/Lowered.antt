@@ -10,7 +10,7 @@ use Rattle.hir_lower_item.specs.Items as item
 use Rattle.hir_lower.specs.Inputs.{ItemInput}
 use Rattle.lower_json.specs.Documents.{IsDocument}
 use Rattle.lower_json.specs.declared.document.Document.{Document}
-use Rattle.lower_run.specs.Lowered.{IsLowered, IsLoweredTo, IsSignature}
+use Rattle.lower_results.specs.Lowered.{IsLowered, IsLoweredTo, IsSignature}
 use Rattle.lower_run.specs.Words.{root_of}
 use Rattle.lower_run.specs.declared.failure.Failure.{Failure}
 use Rattle.lower_run.specs.declared.mode.Mode.{Mode}
