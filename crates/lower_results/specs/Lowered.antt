@@ -1,6 +1,6 @@
 -- What a document is lowered to: what the call of its mode promises of the document's tree, by the answers of an environment. File,
 -- module, function and container have the number 0.
-use Rattle.std.specs.Prelude.{◌≡◌, ℕ, false, List, [], ◌∷◌, length, Option, Some, None, ∥◌∥₁}
+use Rattle.std.specs.Prelude.{◌≡◌, ℕ, false, List, [], ◌∷◌, length, Option, Some, None}
 use Rattle.hir_base.specs.declared.node.AstPtr.{AstPtr}
 use Rattle.hir_base.specs.declared.node.HirFileId.{HirFileId}
 use Rattle.hir_syntax.specs.declared.ast.Path.{Path as AstPath}

@@ -19,11 +19,7 @@ use lower_run::results::LoweringResult;
 use std::alloc::Global;
 
 /// What an alias is lowered to, in the module of number 0. What is told of it, and what calls in it were expanded to, isn't kept.
-fn lowered_alias(
-    alloc: Global,
-    env: &TableEnv,
-    alias: &Alias,
-) -> Result<AliasSignature, LowerError>
+fn lowered_alias(alloc: Global, env: &TableEnv, alias: &Alias) -> Result<AliasSignature, LowerError>
     ensures { IfOk result (IsSignature (item_of_alias (answers_of env.now) alias.now)) }
 {
     let container = ItemContainerId::ModuleId(ModuleId(0));

@@ -16,9 +16,7 @@ use hir_syntax::ast::{self, ParamList};
 use hir_syntax::items::Fn;
 use lower_json::document::{Document, Tree};
 use lower_run::mode::Mode;
-use lower_run::results::{
-    LoweredBody, LoweredFunction, LoweredPath, LoweredType, LoweringResult,
-};
+use lower_run::results::{LoweredBody, LoweredFunction, LoweredPath, LoweredType, LoweringResult};
 use std::alloc::Global;
 
 /// The body that is written in a function.
