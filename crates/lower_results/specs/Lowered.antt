@@ -1,7 +1,6 @@
 -- What a document is lowered to: what the call of its mode promises of the document's tree, by the answers of an environment. File,
 -- module, function and container have the number 0.
 use Rattle.std.specs.Prelude.{◌≡◌, ℕ, false, List, [], ◌∷◌, length, Option, Some, None}
-use Rattle.hir_base.specs.declared.node.AstPtr.{AstPtr}
 use Rattle.hir_base.specs.declared.node.HirFileId.{HirFileId}
 use Rattle.hir_syntax.specs.declared.ast.Path.{Path as AstPath}
 use Rattle.hir_syntax.specs.declared.items.Fn.{Fn}
@@ -9,8 +8,7 @@ use Rattle.hir_syntax.specs.declared.params.ParamList.{ParamList}
 use Rattle.hir_syntax.specs.declared.types.Type_.{Type_}
 use Rattle.hir_store.specs.Past.{Within}
 use Rattle.hir_store.specs.Range.{InRange}
-use Rattle.hir_store.specs.Stored.{SourceMap, Store, Stored, map_of, store_of}
-use Rattle.hir_store.specs.declared.generics.GenericParams.{GenericParams}
+use Rattle.hir_store.specs.Stored.{SourceMap, Stored, map_of, store_of}
 use Rattle.hir_store.specs.declared.ids.DefWithBodyId.{DefWithBodyId}
 use Rattle.hir_store.specs.declared.ids.DefWithBodyId.TheVariants as owner
 use Rattle.hir_store.specs.declared.ids.FunctionId.{FunctionId}
@@ -18,11 +16,10 @@ use Rattle.hir_store.specs.declared.ids.GenericDefId.TheVariants as definition
 use Rattle.hir_store.specs.declared.ids.ItemContainerId.{ItemContainerId}
 use Rattle.hir_store.specs.declared.ids.ItemContainerId.TheVariants as container
 use Rattle.hir_store.specs.declared.ids.ModuleId.{ModuleId}
-use Rattle.hir_store.specs.declared.ids.TypeRefId.{TypeRefId}
 use Rattle.hir_store.specs.declared.type_ref.TypeBound.{TypeBound}
 use Rattle.hir_alias.specs.Alias.{Alias as Signature, Flags}
 use Rattle.hir_env.specs.Answers.{Answers}
-use Rattle.hir_env.specs.ResolvedTree.{OptionPath, OptionType}
+use Rattle.hir_env.specs.ResolvedTree.{OptionType}
 use Rattle.hir_env.specs.declared.ctx.ImplTrait.TheVariants.{Error}
 use Rattle.hir_env.specs.declared.ctx.LowerCtx.{LowerCtx}
 use Rattle.hir_env.specs.declared.ctx.LoweringMode.{LoweringMode}
