@@ -20,10 +20,11 @@ for (const it of all('.n', right).concat(all('.r', code))) {
     expect('forms of ' + name, (forms.get(number) || []).length, lit.length)
   }
   expect('said of ' + name, true, say.textContent.length > 5)
+  expect('uses at ' + name, new Set(usesOf(it)).size, all('.r.use', code).length)
 }
 
 press('Escape')
-expect('after Escape', 0, all('.at, .on').length)
+expect('after Escape', 0, all('.at, .on, .use').length)
 press(']')
 expect('a body at ]', 1, all('.n.at').length)
 press('Tab')

@@ -7,7 +7,7 @@ import re
 
 import listing
 
-from . import program
+from . import names, program
 from .layout import Group, Writer, around, keyword, word
 from .show import Show
 
@@ -89,7 +89,7 @@ class Page:
 
     def __init__(self, source, lowering, modes=frozenset(("body",))):
         self.source, self.lowering, self.modes, self.ranges, self.sections = source, lowering, modes, {}, []
-        self.forms, self.missing, self.told, self.told_ranges = 0, 0, 0, set()
+        self.forms, self.missing, self.told, self.told_ranges, self.bindings = 0, 0, 0, set(), []
 
     def number_of(self, start, end):
         """The number of a range of the text."""
@@ -101,6 +101,17 @@ class Page:
         with concurrent.futures.ThreadPoolExecutor(AT_ONCE) as pool:
             for number, work in enumerate(pool.map(lambda work: work.lower(self.lowering), works)):
                 self.sections.append(self.section(number, work))
+        self.resolve([work for work in works if work.piece.mode == "body" and work.piece.owner == "fn" and work.body[0] == 0])
+
+    def resolve(self, works):
+        """Notes which binding each name in these functions means, where the program that says so is there."""
+        tool = names.find()
+        for work, body in zip(works, names.ask(tool, [work.document for work in works]) or [] if tool else []):
+            nodes = work.document["nodes"]
+            for parts in body:
+                patterns, uses = ([self.number_of(*nodes[node]["r"]) for node in part if node < len(nodes)] for part in parts)
+                if patterns:
+                    self.bindings.append({"at": patterns, "uses": uses})
 
     def section(self, number, work):
         """The section of an item."""
@@ -179,6 +190,7 @@ class Page:
             "LINES": "\n".join(map(str, range(1, lines + 1))), "STORE": "\n".join(sections),
             "WHERE": json.dumps([self.where(*span) for span in self.ranges], separators=(",", ":")),
             "DIAGS": json.dumps(sorted(self.told_ranges)), "COUNTS": " · ".join(counts),
+            "BINDINGS": json.dumps(self.bindings, separators=(",", ":")),
         }
         with open(TEMPLATE, encoding="utf-8") as file:
             return re.sub(r"\{\{(\w+)\}\}", lambda found: fill[found[1]], file.read())

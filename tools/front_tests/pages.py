@@ -6,7 +6,7 @@ import shutil
 import subprocess
 import tempfile
 
-from front import command, document, kept, page, pieces, program
+from front import command, document, kept, names, page, pieces, program
 
 ROWS = os.path.join(program.TOP, "tests", "front_end")
 POINTING = os.path.join(ROWS, "pointing.js")
@@ -43,8 +43,18 @@ def structure(made, source, tally):
         tally.same("page", f"ends of {name}", len(re.findall(rf"<{name}[ >]", balanced)), balanced.count(f"</{name}>"))
 
 
+SCOPES = ["scope 0 - names : x/0#3@4", "expr 9 7 0", "read 9 7 x 0 = x/0#3@4", "read 10 - x 0 = x/0#3@4", "read 11 1:2 y 0 = -",
+          "read 12 8 = 0 = =/0#5@6@1:6", "read 13 9 x - = -", "read 14 11 x 2 = x/0#3@4"]
+
+
+def meanings(tally):
+    """What names mean is read out of what the program for scopes prints."""
+    tally.same("page", "what names mean", [([4], [7, 11]), ([6], [8])], names.meanings(SCOPES))
+
+
 def run(lowering, tally):
     """Tests pages, and says what ran."""
+    meanings(tally)
     source = source_of("shown")
     made = page.Page(source, lowering).html(NAME)
     structure(made, source, tally)

@@ -279,7 +279,7 @@ fn whole_target<P: LowerExprs<ExpressionStoreBuilder>>(
     requires { (P.can lowerer.now.parts).target (P.rctx lowerer.now.parts).place node.now }
     ensures { let rctx = P.rctx lowerer.now.parts in
         Lowers HasPat (assignee_pat (found_at rctx) None (own_pointer rctx node.now) (resolved_expr rctx node.now))
-            state.old result state.new }
+        state.old result state.new }
 {
     let found = assignee(lowerer, state, None, node)?;
     land(state, source(lowerer, None, node), found)

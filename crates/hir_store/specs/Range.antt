@@ -1,5 +1,5 @@
 -- Which entries an entry names, and that they exist.
-use Rattle.std.specs.Prelude.{◌≡◌, ℕ, suc, ◌≤◌, max, List, length, Option}
+use Rattle.std.specs.Prelude.{◌≡◌, ℕ, suc, ◌≤◌, max, List, length, slice_get, Option, Some}
 use Rattle.hir_store.specs.Arenas.{past, past_option}
 use Rattle.hir_store.specs.Stored.{Stored, Store, SourceMap, store_of}
 use Rattle.hir_store.specs.Past.{Past, Within, past_arg, past_arms, past_binding, past_bound, past_bounds, past_each, past_generic}
@@ -243,7 +243,23 @@ HasParts s e =
     × (types_in e ≤ length s.types.entries) × (lifetimes_in e ≤ length s.lifetimes.entries)
     × (pats_in e ≤ length s.pats.entries)
 
--- every number in the store is in range
+-- what is named in the entry at each place is no more than the place
+abbrev pub NamesEarlier : {A : Type 0} → (A → ℕ) → List A → Type 0
+NamesEarlier {A = A} named xs = (n : ℕ) (x : A) → slice_get xs n ≡ Some x → named x ≤ n
+
+-- each pattern up to the target of an assignment names only expressions in front of the assignment
+abbrev pub TargetsEarlier : List Expr → List Pat → Type 0
+TargetsEarlier es ps = (n : ℕ) (target : PatId) (value : ExprId) → slice_get es n ≡ Some (hir.Assignment target value)
+    → (i : ℕ) (p : Pat) → i ≤ target.0 → slice_get ps i ≡ Some p → (past_pat p).exprs ≤ n
+
+-- each entry names only earlier entries of its own kind
+pub record StoreDescends (es : List Expr) (ts : List TypeRef) (ps : List Pat) : Type 0 where
+  pub exprs : NamesEarlier exprs_in es
+  pub types : NamesEarlier (λ t. (past_type t).types) ts
+  pub pats : NamesEarlier (λ p. (past_pat p).pats) ps
+  pub targets : TargetsEarlier es ps
+
+-- every number in the store is in range, and none leads forward
 pub record StoreInRange (s : Store) : Type 0 where
   pub exprs : past exprs_in s.exprs ≤ length s.exprs
   pub labels : past labels_in s.exprs ≤ length s.labels
@@ -257,6 +273,7 @@ pub record StoreInRange (s : Store) : Type 0 where
   pub roots : past past_root s.roots ≤ length s.exprs
   pub pats_ends : past pats_end s.roots ≤ length s.pats
   pub bindings_ends : past bindings_end s.roots ≤ length s.bindings
+  pub descends : StoreDescends s.exprs s.types s.pats
 
 -- the patterns that make bindings
 abbrev pub past_definition : PatId → ℕ

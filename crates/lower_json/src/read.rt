@@ -26,6 +26,9 @@ use std::mem::forget;
 
 const MOST_NODES: usize = 1_000_000;
 
+/// A shorter text has too few names for collisions to cost much.
+const SHORT_TEXT: usize = 4096;
+
 /// The group of what may stand at the root.
 fn group(root: Root) -> Group
     ensures { result ≡ group_of root }
@@ -63,8 +66,12 @@ fn parse(alloc: Global, text: &[u8]) -> Result<Value, ReadError>
     }
 }
 
-/// What names are hashed by: a digest of the whole text. Each change of a name changes it, so that names can't be fitted to it.
+/// What names are hashed by: a digest of the whole text. Each change of a name changes it, so that names can't be fitted to it. A short
+/// text has none, since the digest would take a fifth of the time to read it.
 fn hash_key(text: &[u8]) -> u128 {
+    if text.len() < SHORT_TEXT {
+        return 0;
+    }
     let digest = Sha512::digest(text);
     let mut key = 0;
     for byte in &digest[..16] {

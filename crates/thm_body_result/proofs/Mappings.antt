@@ -1,23 +1,22 @@
 -- Each step of lowering is such a step.
-use Rattle.std.proofs.Common.{arith, refl, ℕ, suc, ◌^◌, ◌≤◌, Bool, true, false, nat_lt, length}
+use Rattle.std.proofs.Common.{◌≡◌, [], arith, refl, ℕ, suc, ◌^◌, ◌≤◌, Bool, true, false, nat_lt, length}
 use Rattle.std.proofs.Common.{if◌then◌else◌}
-use Rattle.std.proofs.Common.{List, [], ◌∷◌, Option, Some, None, Ok, Err}
+use Rattle.std.proofs.Common.{List, ◌∷◌, Option, Some, None, Ok}
+use Rattle.indexmap.specs.IndexMap.{insert_entry}
 use Rattle.hir_base.specs.declared.node.HirFileId.{HirFileId}
 use Rattle.hir_base.specs.declared.node.TextRange.{TextRange}
-use Rattle.hir_store.specs.Pointers.{Pointer}
+use Rattle.hir_store.specs.Pointers.{Pointer, same_pointer}
 use Rattle.hir_store.proofs.Arenas.{prefix_push, prefix_refl}
+use Rattle.hir_store.specs.Arenas.{Sourced, with_entry, with_made, with_mapping}
 use Rattle.hir_store.specs.Stored.{Stored}
 use Rattle.hir_store.specs.StoreSink as store_sink
-use Rattle.hir_store.specs.Bindings.{Bindings, binding_id, with_binding}
+use Rattle.hir_store.specs.Bindings.{binding_id, with_binding}
 use Rattle.hir_store.specs.StoreSink.{expr_id, label_id, lifetime_id, pat_id, type_id}
-use Rattle.hir_store.specs.declared.error.StoreError.TheVariants.{Full}
 use Rattle.hir_store.specs.declared.diagnostics.ExpressionStoreDiagnostics.{ExpressionStoreDiagnostics}
-use Rattle.hir_store.specs.declared.diagnostics.AwaitLocation.{AwaitLocation}
 use Rattle.hir_store.specs.declared.hir.Expr.{Expr}
 use Rattle.hir_store.specs.declared.hir.Label.{Label as HirLabel}
 use Rattle.hir_store.specs.declared.pat.Binding.{Binding}
 use Rattle.hir_store.specs.declared.pat.Pat.{Pat as HirPat}
-use Rattle.hir_store.specs.declared.name.Name.TheVariants.{Generated}
 use Rattle.hir_store.specs.declared.ids.ExprId.{ExprId}
 use Rattle.hir_store.specs.declared.ids.LabelId.{LabelId}
 use Rattle.hir_store.specs.declared.ids.MacroDefId.{MacroDefId}
@@ -38,16 +37,17 @@ use Rattle.hir_env.specs.ResolvedTree.{Called, Entered, Gone, Label, Jump}
 use Rattle.hir_env.specs.Answers.{Eager}
 use Rattle.hir_env.specs.NodeMap.{Site}
 use Rattle.hir_lower_scope.specs.ScopeRibs.{Target, reachable, unreachable, undeclared, target}
+use Rattle.hir_lower_scope.specs.Labels.{rest}
 use Rattle.hir_lower_builder.specs.Builder.{Builder}
 use Rattle.hir_lower_builder.specs.Calls.{define_form, defined, inside_macro, track, track_each, track_gone, record_each}
 use Rattle.hir_lower_builder.specs.Calls.{report_condition, emitted}
-use Rattle.hir_lower_builder.specs.Lowering.{Checked, go_on, Lowering, ◌>>=◌, pure, alloc_expr, alloc_lifetime, alloc_type, point, report}
+use Rattle.hir_lower_builder.specs.Lowering.{Lowering, ◌>>=◌, pure, alloc_expr, alloc_lifetime, alloc_type, point, report, stored}
 use Rattle.hir_lower_builder.specs.Lowering.{alloc_binding, alloc_desugared, alloc_desugared_pat, alloc_pat, define, made_number, point_pat}
 use Rattle.hir_lower_builder.specs.Lowering.{count_def, open_macro, point_pat_field, point_target, point_type, record_expansion}
 use Rattle.hir_lower_builder.specs.Lowering.{open_try, open_try_as, open_try_named, try_target}
 use Rattle.hir_lower_builder.specs.Lowering.{close_barrier, track_yield}
 use Rattle.hir_lower_builder.specs.Lowering.{point_field, open_barrier, enter_root, outside_root, leave_root, record_root}
-use Rattle.hir_lower_builder.specs.Lowering.{enter_block, open_label, close, jump_target, found_or_fault, open_as, report_await, count_out}
+use Rattle.hir_lower_builder.specs.Lowering.{enter_block, open_label, close, jump_target, found_or_fault, open_as, count_out}
 use Rattle.hir_lower_builder.specs.declared.generics.SideOutput.{SideOutput}
 use Rattle.hir_lower_builder.specs.Generics.{with_bounds}
 use Rattle.hir_lower_builder.specs.Lowering.{◌>>◌, add_param, argument_form, becoming, input_end, track_down, param_numbered}
@@ -55,13 +55,13 @@ use Rattle.hir_lower_builder.specs.Lowering.{with_side_output, with_stored}
 use Rattle.hir_lower_builder.specs.Paths.{with_alias, cut_back}
 use Rattle.thm_logic.proofs.Logic.{one_more}
 use Rattle.thm_body_result.specs.LeadsOn.{expr_place, label_place, pat_place, type_place, lifetime_place, Went}
-use Rattle.thm_body_result.proofs.Onward.{on_refl, on_trans, on_insert, onward_refl, onward_entry, onward_made, made, made_up}
-use Rattle.thm_body_result.proofs.Onward.{went_refl, went_same, Low, any, since, new_pat, new_type}
-use Rattle.thm_body_result.proofs.Onward.{Goes, Leading, makes_type, then', leading_pure}
+use Rattle.thm_body_result.proofs.Onward.{on_refl, on_trans, on_insert, onward_refl, onward_entry, onward_made, onward_mapping}
+use Rattle.thm_body_result.proofs.Onward.{arenas, went_refl, went_exprs, went_pats, went_types, Low, any, since, new_pat, new_type}
+use Rattle.thm_body_result.proofs.Onward.{Leading, leading_added, leading_aside, leading_changing, leading_pure, makes_type, then'}
 
 pub leading_count_out : {A : Type 0} → Leading any (count_out {A = A})
 unfolding count_out
-leading_count_out = record { goes = λ b. went_same _ _ (refl, (refl, (refl, (refl, (refl, (refl, (refl, refl))))))) }
+leading_count_out = leading_aside (λ b. refl)
 
 -- what a definition of a macro counts and opens is nothing stored
 counted_leads : (t : Bool) → Leading any (if t then pure tt else count_out {A = Unit {0}})
@@ -74,16 +74,16 @@ leading_define_macro k d = then' (counted_leads (nat_lt (suc k) (2 ^ 32))) (λ u
 
 leading_open_macro : (d : MacroDefId) → Leading any (open_macro d)
 unfolding open_macro
-leading_open_macro d = record { goes = λ b. (went_same _ _ (refl, (refl, (refl, (refl, (refl, (refl, (refl, refl))))))), tt) }
+leading_open_macro d = leading_aside (λ b. refl)
 
 pub leading_report : (d : ExpressionStoreDiagnostics) → Leading any (report d)
 unfolding report store_sink.report
-leading_report d = record { goes = λ b. (went_same _ _ (refl, (refl, (refl, (refl, (refl, (refl, (refl, refl))))))), tt) }
+leading_report d = leading_aside (λ b. refl)
 
 -- nor does a call that is recorded
 leading_expansion : (call : Site) (range : Option TextRange) (file : HirFileId) → Leading any (record_expansion call range file)
 unfolding record_expansion store_sink.record_expansion
-leading_expansion call range file = record { goes = λ b. (went_same _ _ (refl, (refl, (refl, (refl, (refl, (refl, (refl, refl))))))), tt) }
+leading_expansion call range file = leading_aside (λ b. refl)
 
 leading_each : (es : List Eager) → Leading any (record_each es)
 leading_each [] = leading_pure tt
@@ -115,41 +115,36 @@ leading_gone why = then' (leading_calls why.entered) (λ u. leading_condition wh
 -- where a value leads to is no way of a node
 pub leading_point_field : (i : ExprId) (at : Pointer) → Leading any (point_field i at)
 unfolding point_field store_sink.point_field
-leading_point_field i at = record { goes = λ b. (went_same _ _ (refl, (refl, (refl, (refl, (refl, (refl, (refl, refl))))))), tt) }
-
-pub leading_report_await : (at : Pointer) (location : Option AwaitLocation) → Leading any (report_await at location)
-unfolding report_await
-leading_report_await at None = leading_pure tt
-leading_report_await at (Some l) = leading_report _
+leading_point_field i at = leading_aside (λ b. refl)
 
 pub leading_block : (n : Option BlockId) → Leading any (enter_block n)
 unfolding enter_block store_sink.enter_block
 leading_block None = leading_pure tt
-leading_block (Some n) = record { goes = λ b. (went_same _ _ (refl, (refl, (refl, (refl, (refl, (refl, (refl, refl))))))), tt) }
+leading_block (Some n) = leading_aside (λ b. refl)
 
 pub leading_barrier : Leading any open_barrier
 unfolding open_barrier
-leading_barrier = record { goes = λ b. (went_same _ _ (refl, (refl, (refl, (refl, (refl, (refl, (refl, refl))))))), tt) }
+leading_barrier = leading_aside (λ b. refl)
 
 pub leading_close_barrier : (outside : Bool) → Leading any (close_barrier outside)
 unfolding close_barrier
-leading_close_barrier outside = record { goes = λ b. (went_same _ _ (refl, (refl, (refl, (refl, (refl, (refl, (refl, refl))))))), tt) }
+leading_close_barrier outside = leading_aside (λ b. refl)
 
 pub leading_track : Leading any track_yield
 unfolding track_yield
-leading_track = record { goes = λ b. (went_same _ _ (refl, (refl, (refl, (refl, (refl, (refl, (refl, refl))))))), tt) }
+leading_track = leading_aside (λ b. refl)
 
 pub leading_enter : Leading any enter_root
 unfolding enter_root
-leading_enter = record { goes = λ b. (went_same _ _ (refl, (refl, (refl, (refl, (refl, (refl, (refl, refl))))))), tt) }
+leading_enter = leading_aside (λ b. refl)
 
 leading_outside : Leading any outside_root
 unfolding outside_root
-leading_outside = record { goes = λ b. (went_same _ _ (refl, (refl, (refl, (refl, (refl, (refl, (refl, refl))))))), tt) }
+leading_outside = leading_aside (λ b. refl)
 
 leading_record : (i : ExprId) → Leading any (record_root i)
 unfolding record_root store_sink.record_root
-leading_record i = record { goes = λ b. (went_same _ _ (refl, (refl, (refl, (refl, (refl, (refl, (refl, refl))))))), tt) }
+leading_record i = leading_aside (λ b. refl)
 
 pub leading_leave : (outer : Bool) (i : ExprId) → Leading any (leave_root outer i)
 unfolding leave_root
@@ -158,7 +153,7 @@ leading_leave false i = then' (leading_record i) (λ u. leading_outside)
 
 pub leading_close : Leading any close
 unfolding close
-leading_close = record { goes = λ b. (went_same _ _ (refl, (refl, (refl, (refl, (refl, (refl, (refl, refl))))))), tt) }
+leading_close = leading_aside (λ b. refl)
 
 pub leading_inside_macro : {A : Type 0} (d : MacroDefId) {p : Lowering A} → Leading any p → Leading any (inside_macro d p)
 unfolding inside_macro
@@ -167,102 +162,44 @@ leading_inside_macro d h = then' (leading_open_macro d) (λ u. then' h (λ x. th
 pub leading_jump : (j : Option Jump) → Leading any (jump_target j)
 unfolding jump_target report store_sink.report
 leading_jump None = leading_pure None
-leading_jump (Some j) = record { goes = λ b. by b (target j b.scopes) }
+leading_jump (Some j) = leading_aside (λ b. by b (target j b.scopes))
   where
-    by : (b : Builder) (t : Target LabelId) → Goes any b (found_or_fault j t b).0 (found_or_fault j t b).1
-    by b (reachable n) = (went_same _ _ (refl, (refl, (refl, (refl, (refl, (refl, (refl, refl))))))), tt)
-    by b unreachable = (went_same _ _ (refl, (refl, (refl, (refl, (refl, (refl, (refl, refl))))))), tt)
-    by b undeclared = (went_same _ _ (refl, (refl, (refl, (refl, (refl, (refl, (refl, refl))))))), tt)
+    by : (b : Builder) (t : Target LabelId) → arenas (found_or_fault j t b).1.stored ≡ arenas b.stored
+    by b (reachable n) = refl
+    by b unreachable = refl
+    by b undeclared = refl
+
+-- entries
+
+-- where another one fits
+abbrev has_room : {E I : Type 0} → Sourced E I → Bool
+has_room a = nat_lt (length a.entries) a.limit
 
 pub leading_alloc : (e : Expr) (source : Option Pointer) → Leading since (alloc_expr e source)
 unfolding alloc_expr store_sink.alloc_expr
-leading_alloc e source = record { goes = λ b. by b (nat_lt (length b.stored.exprs.entries) b.stored.exprs.limit) }
-  where
-    by : (b : Builder) (t : Bool)
-        → Goes since b (made expr_id t e source b.stored.exprs).0
-        (record b { stored = record b.stored { exprs = (made expr_id t e source b.stored.exprs).1 } })
-    by b true = (
-      record {
-        exprs = onward_entry expr_place expr_id (λ n. refl) b.stored.exprs e source;
-        labels = onward_refl label_place _;
-        pats = onward_refl pat_place _;
-        targets = on_refl pat_place _ _;
-        types = onward_refl type_place _;
-        lifetimes = onward_refl lifetime_place _;
-        bindings = prefix_refl _;
-        owners = λ m. (prefix_refl _, m);
-      },
-      omega arith,
-    )
-    by b false = went_refl b.stored
+leading_alloc e source = leading_added (λ s. s.exprs) (λ s a. record s { exprs = a }) has_room (λ a. expr_id (length a.entries))
+    (λ a. with_entry expr_id a e source)
+    (λ s. (went_exprs (went_refl s) _ (onward_entry expr_place expr_id (λ n. refl) s.exprs e source), omega arith)) went_refl
 
 -- its node doesn't lead to it
 pub leading_made : (e : Expr) (source : Option Pointer) → Leading since (alloc_desugared e source)
 unfolding alloc_desugared store_sink.alloc_desugared
-leading_made e source = record { goes = λ b. by b (nat_lt (length b.stored.exprs.entries) b.stored.exprs.limit) }
-  where
-    by : (b : Builder) (t : Bool)
-        → Goes since b (made_up expr_id t e source b.stored.exprs).0
-        (record b { stored = record b.stored { exprs = (made_up expr_id t e source b.stored.exprs).1 } })
-    by b true = (
-      record {
-        exprs = onward_made expr_place b.stored.exprs e source;
-        labels = onward_refl label_place _;
-        pats = onward_refl pat_place _;
-        targets = on_refl pat_place _ _;
-        types = onward_refl type_place _;
-        lifetimes = onward_refl lifetime_place _;
-        bindings = prefix_refl _;
-        owners = λ m. (prefix_refl _, m);
-      },
-      omega arith,
-    )
-    by b false = went_refl b.stored
+leading_made e source = leading_added (λ s. s.exprs) (λ s a. record s { exprs = a }) has_room (λ a. expr_id (length a.entries))
+    (λ a. with_made a e source)
+    (λ s. (went_exprs (went_refl s) _ (onward_made expr_place s.exprs e source), omega arith)) went_refl
 
 pub leading_alloc_pat : (p : HirPat) (source : Option Pointer) → Leading new_pat (alloc_pat p source)
 unfolding alloc_pat store_sink.alloc_pat
-leading_alloc_pat p source = record { goes = λ b. by b (nat_lt (length b.stored.pats.entries) b.stored.pats.limit) }
-  where
-    by : (b : Builder) (t : Bool)
-        → Goes new_pat b (made pat_id t p source b.stored.pats).0
-        (record b { stored = record b.stored { pats = (made pat_id t p source b.stored.pats).1 } })
-    by b true = (
-      record {
-        exprs = onward_refl expr_place _;
-        labels = onward_refl label_place _;
-        pats = onward_entry pat_place pat_id (λ n. refl) b.stored.pats p source;
-        targets = on_refl pat_place _ _;
-        types = onward_refl type_place _;
-        lifetimes = onward_refl lifetime_place _;
-        bindings = prefix_refl _;
-        owners = λ m. (prefix_refl _, m);
-      },
-      omega arith,
-    )
-    by b false = went_refl b.stored
+leading_alloc_pat p source = leading_added (λ s. s.pats) (λ s a. record s { pats = a }) has_room (λ a. pat_id (length a.entries))
+    (λ a. with_entry pat_id a p source)
+    (λ s. (went_pats (went_refl s) _ (onward_entry pat_place pat_id (λ n. refl) s.pats p source), omega arith)) went_refl
 
 -- no node leads to it at once
 pub leading_made_pat : (p : HirPat) (from : Option Pointer) → Leading new_pat (alloc_desugared_pat p from)
 unfolding alloc_desugared_pat store_sink.alloc_desugared_pat
-leading_made_pat p from = record { goes = λ b. by b (nat_lt (length b.stored.pats.entries) b.stored.pats.limit) }
-  where
-    by : (b : Builder) (t : Bool)
-        → Goes new_pat b (made_up pat_id t p from b.stored.pats).0
-        (record b { stored = record b.stored { pats = (made_up pat_id t p from b.stored.pats).1 } })
-    by b true = (
-      record {
-        exprs = onward_refl expr_place _;
-        labels = onward_refl label_place _;
-        pats = onward_made pat_place b.stored.pats p from;
-        targets = on_refl pat_place _ _;
-        types = onward_refl type_place _;
-        lifetimes = onward_refl lifetime_place _;
-        bindings = prefix_refl _;
-        owners = λ m. (prefix_refl _, m);
-      },
-      omega arith,
-    )
-    by b false = went_refl b.stored
+leading_made_pat p from = leading_added (λ s. s.pats) (λ s a. record s { pats = a }) has_room (λ a. pat_id (length a.entries))
+    (λ a. with_made a p from)
+    (λ s. (went_pats (went_refl s) _ (onward_made pat_place s.pats p from), omega arith)) went_refl
 
 -- no node leads to a binding
 
@@ -270,88 +207,59 @@ leading_made_pat p from = record { goes = λ b. by b (nat_lt (length b.stored.pa
 abbrev pub new : Low BindingId
 new s b = length s.bindings.entries ≤ b.0
 
-abbrev pub bound_if : Bool → Binding → Bindings → Checked BindingId × Bindings
-bound_if room x a = if room then (Ok (binding_id (length a.entries)), with_binding a x) else (Err Full, a)
-
 pub leading_alloc_binding : (x : Binding) → Leading new (alloc_binding x)
 unfolding alloc_binding store_sink.alloc_binding
-leading_alloc_binding x = record { goes = λ b. by b (nat_lt (length b.stored.bindings.entries) b.stored.bindings.limit) }
+leading_alloc_binding x = leading_added (λ s. s.bindings) (λ s a. record s { bindings = a }) (λ a. nat_lt (length a.entries) a.limit)
+    (λ a. binding_id (length a.entries)) (λ a. with_binding a x) (λ s. (bound s, omega arith)) went_refl
   where
-    by : (b : Builder) (t : Bool)
-        → Goes new b (bound_if t x b.stored.bindings).0
-        (record b { stored = record b.stored { bindings = (bound_if t x b.stored.bindings).1 } })
-    by b true = (
-      record {
-        exprs = onward_refl expr_place _;
-        labels = onward_refl label_place _;
-        pats = onward_refl pat_place _;
-        targets = on_refl pat_place _ _;
-        types = onward_refl type_place _;
-        lifetimes = onward_refl lifetime_place _;
-        bindings = prefix_push b.stored.bindings.entries x;
-        owners = λ m. (prefix_push b.stored.bindings.owners None, one_more b.stored.bindings.entries x b.stored.bindings.owners None m);
-      },
-      omega arith,
-    )
-    by b false = went_refl b.stored
+    bound : (s : Stored) → Went s (record s { bindings = with_binding s.bindings x })
+    bound s = record {
+      exprs = onward_refl expr_place _;
+      labels = onward_refl label_place _;
+      pats = onward_refl pat_place _;
+      targets = on_refl pat_place _ _;
+      types = onward_refl type_place _;
+      lifetimes = onward_refl lifetime_place _;
+      bindings = prefix_push s.bindings.entries x;
+      owners = λ m. (prefix_push s.bindings.owners None, one_more s.bindings.entries x s.bindings.owners None m);
+    }
 
 pub leading_define : (id : BindingId) (p : PatId) → Leading any (define id p)
 unfolding define store_sink.define
-leading_define id p = record { goes = λ b. (went_same _ _ (refl, (refl, (refl, (refl, (refl, (refl, (refl, refl))))))), tt) }
+leading_define id p = leading_aside (λ b. refl)
 
 pub leading_point_pat_field : (id : PatId) (at : Pointer) → Leading any (point_pat_field id at)
 unfolding point_pat_field store_sink.point_pat_field
-leading_point_pat_field id at = record { goes = λ b. (went_same _ _ (refl, (refl, (refl, (refl, (refl, (refl, (refl, refl))))))), tt) }
+leading_point_pat_field id at = leading_aside (λ b. refl)
 
 pub leading_alloc_type : (e : TypeRef) (source : Option Pointer) → Leading new_type (alloc_type e source)
 unfolding alloc_type store_sink.alloc_type
-leading_alloc_type e source = record { goes = λ b. by b (nat_lt (length b.stored.types.entries) b.stored.types.limit) }
-  where
-    by : (b : Builder) (t : Bool)
-        → Goes new_type b (made type_id t e source b.stored.types).0
-        (record b { stored = record b.stored { types = (made type_id t e source b.stored.types).1 } })
-    by b true = (
-      record {
-        exprs = onward_refl expr_place _;
-        labels = onward_refl label_place _;
-        pats = onward_refl pat_place _;
-        targets = on_refl pat_place _ _;
-        types = onward_entry type_place type_id (λ n. refl) b.stored.types e source;
-        lifetimes = onward_refl lifetime_place _;
-        bindings = prefix_refl _;
-        owners = λ m. (prefix_refl _, m);
-      },
-      omega arith,
-    )
-    by b false = went_refl b.stored
+leading_alloc_type e source = leading_added (λ s. s.types) (λ s a. record s { types = a }) has_room (λ a. type_id (length a.entries))
+    (λ a. with_entry type_id a e source)
+    (λ s. (went_types (went_refl s) _ (onward_entry type_place type_id (λ n. refl) s.types e source), omega arith)) went_refl
 
 pub leading_alloc_lifetime : (e : LifetimeRef) (source : Option Pointer) → Leading any (alloc_lifetime e source)
 unfolding alloc_lifetime store_sink.alloc_lifetime
-leading_alloc_lifetime e source = record { goes = λ b. by b (nat_lt (length b.stored.lifetimes.entries) b.stored.lifetimes.limit) }
+leading_alloc_lifetime e source = leading_added (λ s. s.lifetimes) (λ s a. record s { lifetimes = a }) has_room
+    (λ a. lifetime_id (length a.entries)) (λ a. with_entry lifetime_id a e source) (λ s. (entered s, tt)) went_refl
   where
-    by : (b : Builder) (t : Bool)
-        → Goes any b (made lifetime_id t e source b.stored.lifetimes).0
-        (record b { stored = record b.stored { lifetimes = (made lifetime_id t e source b.stored.lifetimes).1 } })
-    by b true = (
-      record {
-        exprs = onward_refl expr_place _;
-        labels = onward_refl label_place _;
-        pats = onward_refl pat_place _;
-        targets = on_refl pat_place _ _;
-        types = onward_refl type_place _;
-        lifetimes = onward_entry lifetime_place lifetime_id (λ n. refl) b.stored.lifetimes e source;
-        bindings = prefix_refl _;
-        owners = λ m. (prefix_refl _, m);
-      },
-      tt,
-    )
-    by b false = went_refl b.stored
+    entered : (s : Stored) → Went s (record s { lifetimes = with_entry lifetime_id s.lifetimes e source })
+    entered s = record {
+      exprs = onward_refl expr_place _;
+      labels = onward_refl label_place _;
+      pats = onward_refl pat_place _;
+      targets = on_refl pat_place _ _;
+      types = onward_refl type_place _;
+      lifetimes = onward_entry lifetime_place lifetime_id (λ n. refl) s.lifetimes e source;
+      bindings = prefix_refl _;
+      owners = λ m. (prefix_refl _, m);
+    }
 
 -- what is noted beside it
 
 pub leading_track_down : (f : SideOutput → SideOutput) → Leading any (track_down f)
 unfolding track_down
-leading_track_down f = record { goes = λ b. (went_refl b.stored, tt) }
+leading_track_down f = leading_aside (λ b. refl)
 
 pub leading_tracked : (f : SideOutput → SideOutput) {A : Type 0} {p : Lowering A} → Leading any p → Leading any (track_down f >> p)
 leading_tracked f h = then' (leading_track_down f) (λ u. h)
@@ -391,12 +299,7 @@ leading_add_param x =
 type_and_track : (f : TypeRefId → SideOutput → SideOutput) {p : Lowering TypeRefId} → Leading new_type p
     → Leading new_type (p >>= (λ t. track_down (f t) >>= (λ _. pure t)))
 unfolding track_down
-type_and_track f {p = p} h = record { goes = λ b. by b (p b).0 (p b).1 (h.goes b) }
-  where
-    by : (b : Builder) (o : Checked TypeRefId) (c : Builder) → Goes new_type b o c
-        → Goes new_type b (go_on o c (λ t. track_down (f t) >>= (λ _. pure t))).0 (go_on o c (λ t. track_down (f t) >>= (λ _. pure t))).1
-    by b (Ok t) c x = x
-    by b (Err e) c x = x
+type_and_track f h = leading_changing (λ t c. record c { tracks = f t c.tracks }) (λ s t c w l. w) h
 
 -- what an `impl` becomes is a type that came since
 pub leading_becoming : (at : Pointer) (mode : ImplTrait) (bounds : List TypeBound) → Leading new_type (becoming at mode bounds)
@@ -406,58 +309,47 @@ leading_becoming at becomes.Opaque bounds = leading_alloc_type _ _
 leading_becoming at (becomes.Argument def) bounds = makes_type (leading_add_param _)
     (λ k. type_and_track (λ t. with_bounds t bounds) (leading_alloc_type _ (Some at)))
 
-label_made : (l : HirLabel) (source : Option Pointer) (b : Builder) (t : Bool)
-    → Went b.stored (record b.stored { labels = (made label_id t l source b.stored.labels).1 })
-label_made l source b true = record {
-  exprs = onward_refl expr_place _;
-  labels = onward_entry label_place label_id (λ n. refl) b.stored.labels l source;
-  pats = onward_refl pat_place _;
-  targets = on_refl pat_place _ _;
-  types = onward_refl type_place _;
-  lifetimes = onward_refl lifetime_place _;
-  bindings = prefix_refl _;
-  owners = λ m. (prefix_refl _, m);
-}
-label_made l source b false = went_refl b.stored
+-- a label is stored, and then opened
 
--- the label is stored, and then opened
-abbrev opening : Label → Bool → Builder → Checked LabelId × Builder
-opening l t b =
-    let r = made label_id t (record { name = l.name }) (Some l.pointer) b.stored.labels in
-    go_on r.0 (record b { stored = record b.stored { labels = r.1 } }) (λ n. open_as l n >>= (λ _. pure n))
+leading_alloc_label : (l : HirLabel) (source : Option Pointer) → Leading any (stored (store_sink.alloc_label l source))
+unfolding store_sink.alloc_label
+leading_alloc_label l source = leading_added (λ s. s.labels) (λ s a. record s { labels = a }) has_room (λ a. label_id (length a.entries))
+    (λ a. with_entry label_id a l source) (λ s. (entered s, tt)) went_refl
+  where
+    entered : (s : Stored) → Went s (record s { labels = with_entry label_id s.labels l source })
+    entered s = record {
+      exprs = onward_refl expr_place _;
+      labels = onward_entry label_place label_id (λ n. refl) s.labels l source;
+      pats = onward_refl pat_place _;
+      targets = on_refl pat_place _ _;
+      types = onward_refl type_place _;
+      lifetimes = onward_refl lifetime_place _;
+      bindings = prefix_refl _;
+      owners = λ m. (prefix_refl _, m);
+    }
 
 pub leading_open : (l : Label) → Leading any (open_label l)
-unfolding open_label store_sink.alloc_label
-leading_open l = record { goes = λ b. by b (nat_lt (length b.stored.labels.entries) b.stored.labels.limit) }
+unfolding open_label
+leading_open l = then' (leading_alloc_label _ _) (λ n. then' (opened n) (λ u. leading_pure n))
   where
-    by : (b : Builder) (t : Bool) → Goes any b (opening l t b).0 (opening l t b).1
-    by b true = (label_made (record { name = l.name }) (Some l.pointer) b true, tt)
-    by b false = label_made (record { name = l.name }) (Some l.pointer) b false
+    opened : (n : LabelId) → Leading any (open_as l n)
+    opened n = leading_aside (λ b. refl)
 
 -- the number of a made name, where there is one more
-abbrev number_if : Bool → Builder → Checked ℕ × Builder
-number_if t b = if t then (Ok b.names, record b { names = suc b.names }) else count_out b
-
 pub leading_number : Leading any made_number
 unfolding made_number count_out
-leading_number = record { goes = λ b. by b (nat_lt (suc b.names) (2 ^ 32)) }
+leading_number = leading_aside (λ b. by b (nat_lt (suc b.names) (2 ^ 32)))
   where
-    by : (b : Builder) (t : Bool) → Goes any b (number_if t b).0 (number_if t b).1
-    by b true = (went_refl b.stored, tt)
-    by b false = went_refl b.stored
-
-abbrev opening_try : Pointer → Bool → ℕ → Bool → Builder → Checked LabelId × Builder
-opening_try at typed n t b =
-    let r = made label_id t (record { name = Generated n }) (Some at) b.stored.labels in
-    go_on r.0 (record b { stored = record b.stored { labels = r.1 } }) (λ l. open_try_as l typed >>= (λ _. pure l))
+    by : (b : Builder) (room : Bool)
+        → arenas (if room then (Ok b.names, record b { names = suc b.names }) else count_out b).1.stored ≡ arenas b.stored
+    by b true = refl
+    by b false = refl
 
 leading_open_named : (at : Pointer) (typed : Bool) (n : ℕ) → Leading any (open_try_named at typed n)
-unfolding store_sink.alloc_label
-leading_open_named at typed n = record { goes = λ b. by b (nat_lt (length b.stored.labels.entries) b.stored.labels.limit) }
+leading_open_named at typed n = then' (leading_alloc_label _ _) (λ l. then' (opened l) (λ u. leading_pure l))
   where
-    by : (b : Builder) (t : Bool) → Goes any b (opening_try at typed n t b).0 (opening_try at typed n t b).1
-    by b true = (label_made (record { name = Generated n }) (Some at) b true, tt)
-    by b false = label_made (record { name = Generated n }) (Some at) b false
+    opened : (l : LabelId) → Leading any (open_try_as l typed)
+    opened l = leading_aside (λ b. refl)
 
 pub leading_open_try : (at : Pointer) (typed : Bool) → Leading any (open_try at typed)
 unfolding open_try
@@ -465,115 +357,46 @@ leading_open_try at typed = then' leading_number (λ n. leading_open_named at ty
 
 pub leading_try_target : Leading any try_target
 unfolding try_target
-leading_try_target = record { goes = λ b. (went_refl b.stored, tt) }
+leading_try_target = leading_aside (λ b. refl)
 
 -- a node more leads to what has come since
 pub leading_point : (at : Pointer) {p : Lowering ExprId} → Leading since p → Leading since (p >>= (λ i. point at i >>= (λ _. pure i)))
 unfolding point store_sink.point
-leading_point at {p = p} h = record { goes = λ b. by b (p b).0 (p b).1 (h.goes b) }
-  where
-    by : (b : Builder) (o : Checked ExprId) (c : Builder) → Goes since b o c
-        → Goes since b (go_on o c (λ i. point at i >>= (λ _. pure i))).0 (go_on o c (λ i. point at i >>= (λ _. pure i))).1
-    by b (Ok i) c x = (
-      record {
-        exprs = record {
-          grown = x.0.exprs.grown;
-          mappings = on_trans expr_place _ _ _ _ x.0.exprs.mappings (on_insert expr_place _ c.stored.exprs.map at i x.1);
-        };
-        labels = x.0.labels;
-        pats = x.0.pats;
-        types = x.0.types;
-        targets = x.0.targets;
-        lifetimes = x.0.lifetimes;
-        bindings = x.0.bindings;
-        owners = x.0.owners;
-      },
-      x.1,
-    )
-    by b (Err e) c x = x
+leading_point at h = leading_changing (λ i c. record c { stored = record c.stored { exprs = with_mapping c.stored.exprs at i } })
+    (λ s i c w l. went_exprs w _ (onward_mapping expr_place w.exprs at i l)) h
 
 pub leading_point_pat : {A : Type 0} (at : Pointer) (pat_in : A → PatId) {L : Low A} {p : Lowering A}
     → ((s : Stored) (a : A) → L s a → new_pat s (pat_in a)) → Leading L p
     → Leading L (p >>= (λ a. point_pat at (pat_in a) >>= (λ _. pure a)))
 unfolding point_pat store_sink.point_pat
-leading_point_pat {A = A} at pat_in {L = L} {p = p} new h = record { goes = λ b. by b (p b).0 (p b).1 (h.goes b) }
-  where
-    by : (b : Builder) (o : Checked A) (c : Builder) → Goes L b o c
-        → Goes L b (go_on o c (λ a. point_pat at (pat_in a) >>= (λ _. pure a))).0
-        (go_on o c (λ a. point_pat at (pat_in a) >>= (λ _. pure a))).1
-    by b (Ok a) c x = (
-      record {
-        exprs = x.0.exprs;
-        labels = x.0.labels;
-        pats = record {
-          grown = x.0.pats.grown;
-          mappings =
-              on_trans pat_place _ _ _ _ x.0.pats.mappings (on_insert pat_place _ c.stored.pats.map at (pat_in a) (new b.stored a x.1));
-        };
-        types = x.0.types;
-        targets = x.0.targets;
-        lifetimes = x.0.lifetimes;
-        bindings = x.0.bindings;
-        owners = x.0.owners;
-      },
-      x.1,
-    )
-    by b (Err e) c x = x
+leading_point_pat at pat_in new h =
+    leading_changing (λ a c. record c { stored = record c.stored { pats = with_mapping c.stored.pats at (pat_in a) } })
+    (λ s a c w l. went_pats w _ (onward_mapping pat_place w.pats at (pat_in a) (new s a l))) h
 
 -- of the assignee expression
 pub leading_point_target : (at : Pointer) {p : Lowering PatId} → Leading new_pat p
     → Leading new_pat (p >>= (λ i. point_target at i >>= (λ _. pure i)))
 unfolding point_target store_sink.point_target
-leading_point_target at {p = p} h = record { goes = λ b. by b (p b).0 (p b).1 (h.goes b) }
-  where
-    by : (b : Builder) (o : Checked PatId) (c : Builder) → Goes new_pat b o c
-        → Goes new_pat b (go_on o c (λ i. point_target at i >>= (λ _. pure i))).0 (go_on o c (λ i. point_target at i >>= (λ _. pure i))).1
-    by b (Ok i) c x = (
-      record {
-        exprs = x.0.exprs;
-        labels = x.0.labels;
-        pats = x.0.pats;
-        targets = on_trans pat_place _ _ _ _ x.0.targets (on_insert pat_place _ c.stored.target_map at i x.1);
-        types = x.0.types;
-        lifetimes = x.0.lifetimes;
-        bindings = x.0.bindings;
-        owners = x.0.owners;
-      },
-      x.1,
-    )
-    by b (Err e) c x = x
+leading_point_target at h = leading_changing
+    (λ i c. record c { stored = record c.stored { target_map = insert_entry same_pointer c.stored.target_map at i } })
+    (λ s i c w l. record {
+      exprs = w.exprs;
+      labels = w.labels;
+      pats = w.pats;
+      targets = on_trans pat_place _ _ _ _ w.targets (on_insert pat_place _ c.stored.target_map at i l);
+      types = w.types;
+      lifetimes = w.lifetimes;
+      bindings = w.bindings;
+      owners = w.owners;
+    }) h
 
 pub leading_point_type : (at : Pointer) {p : Lowering TypeRefId} → Leading new_type p
     → Leading new_type (p >>= (λ i. point_type at i >>= (λ _. pure i)))
 unfolding point_type store_sink.point_type
-leading_point_type at {p = p} h = record { goes = λ b. by b (p b).0 (p b).1 (h.goes b) }
-  where
-    by : (b : Builder) (o : Checked TypeRefId) (c : Builder) → Goes new_type b o c
-        → Goes new_type b (go_on o c (λ i. point_type at i >>= (λ _. pure i))).0 (go_on o c (λ i. point_type at i >>= (λ _. pure i))).1
-    by b (Ok i) c x = (
-      record {
-        exprs = x.0.exprs;
-        labels = x.0.labels;
-        pats = x.0.pats;
-        types = record {
-          grown = x.0.types.grown;
-          mappings = on_trans type_place _ _ _ _ x.0.types.mappings (on_insert type_place _ c.stored.types.map at i x.1);
-        };
-        targets = x.0.targets;
-        lifetimes = x.0.lifetimes;
-        bindings = x.0.bindings;
-        owners = x.0.owners;
-      },
-      x.1,
-    )
-    by b (Err e) c x = x
+leading_point_type at h = leading_changing (λ i c. record c { stored = record c.stored { types = with_mapping c.stored.types at i } })
+    (λ s i c w l. went_types w _ (onward_mapping type_place w.types at i l)) h
 
 -- what is open is closed behind an expression
 pub leading_closed : {p : Lowering ExprId} → Leading since p → Leading since (p >>= (λ i. close >>= (λ _. pure i)))
 unfolding close
-leading_closed {p = p} h = record { goes = λ b. by b (p b).0 (p b).1 (h.goes b) }
-  where
-    by : (b : Builder) (o : Checked ExprId) (c : Builder) → Goes since b o c
-        → Goes since b (go_on o c (λ i. close >>= (λ _. pure i))).0 (go_on o c (λ i. close >>= (λ _. pure i))).1
-    by b (Ok i) c x = x
-    by b (Err e) c x = x
+leading_closed h = leading_changing (λ i c. record c { scopes = rest c.scopes }) (λ s i c w l. w) h

@@ -1,17 +1,25 @@
 -- What is stored goes on: no entry is lost, and nodes lead on to what came since. Steps that keep to it, one after another.
-use Rattle.std.proofs.Common.{arith, ◌≡◌, ◌∙◌, refl, sym, ap, subst, ℕ, ◌≤◌, Bool, true, false, length}
+use Rattle.std.proofs.Common.{[], arith, ◌≡◌, ◌∙◌, refl, sym, ap, subst, ℕ, ◌≤◌, Bool, true, false, length}
 use Rattle.std.proofs.Common.{if◌then◌else◌, length-append}
-use Rattle.std.proofs.Common.{List, [], ◌∷◌, Option, Some, None, Ok, Err, ◌⊎◌, inl, inr, ⊎_elim, true≢false, is_some}
+use Rattle.std.proofs.Common.{List, ◌∷◌, Option, Some, None, Ok, Err, ◌⊎◌, inl, inr, ⊎_elim, true≢false, is_some}
 use Rattle.hir_store.specs.Pointers.{Pointer, same_pointer, value_at}
-use Rattle.hir_store.specs.Arenas.{Sourced, insert_pointer, with_entry, with_made}
+use Rattle.hir_store.specs.Arenas.{Sourced, insert_pointer, with_entry, with_made, with_mapping}
 use Rattle.hir_store.proofs.Arenas.{prefix_refl, prefix_trans}
 use Rattle.hir_store.specs.Stored.{Stored}
 use Rattle.hir_store.specs.declared.error.StoreError.TheVariants.{Full}
+use Rattle.hir_store.specs.declared.hir.Expr.{Expr}
+use Rattle.hir_store.specs.declared.hir.Label.{Label}
 use Rattle.hir_store.specs.declared.ids.ExprId.{ExprId}
+use Rattle.hir_store.specs.declared.ids.LabelId.{LabelId}
+use Rattle.hir_store.specs.declared.ids.LifetimeRefId.{LifetimeRefId}
 use Rattle.hir_store.specs.declared.ids.PatId.{PatId}
 use Rattle.hir_store.specs.declared.ids.TypeRefId.{TypeRefId}
+use Rattle.hir_store.specs.declared.pat.Binding.{Binding}
+use Rattle.hir_store.specs.declared.pat.Pat.{Pat}
+use Rattle.hir_store.specs.declared.type_ref.LifetimeRef.{LifetimeRef}
+use Rattle.hir_store.specs.declared.type_ref.TypeRef.{TypeRef}
 use Rattle.hir_lower_builder.specs.Builder.{Builder}
-use Rattle.hir_lower_builder.specs.Lowering.{Checked, go_on, Lowering, ◌>>=◌, pure}
+use Rattle.hir_lower_builder.specs.Lowering.{Checked, go_on, Lowering, ◌>>=◌, pure, stored}
 use Rattle.thm_logic.proofs.Answering.{Answering, AnsweredTo, answering_any}
 use Rattle.thm_body_result.specs.LeadsOn.{LeadsOn, Onward, Went, expr_place, label_place, lifetime_place, pat_place, type_place}
 
@@ -83,12 +91,15 @@ module _ {E I : Type 0} (place : I → ℕ) where
   onward_made a x source =
       let grown = length-append a.entries (x ∷ []) in record { grown = omega arith; mappings = on_refl place _ _ }
 
+  -- one node more leads to an entry that came since
+  pub onward_mapping : {a b : Sourced E I} → Onward place a b → (p : Pointer) (id : I) → length a.entries ≤ place id
+      → Onward place a (with_mapping b p id)
+  onward_mapping {a = a} {b = b} w p id l =
+      record { grown = w.grown; mappings = on_trans place _ _ _ _ w.mappings (on_insert place _ b.map p id l) }
+
 -- an entry, where there is room for one
 abbrev pub made : {E I : Type 0} → (ℕ → I) → Bool → E → Option Pointer → Sourced E I → Checked I × Sourced E I
 made number t x source a = if t then (Ok (number (length a.entries)), with_entry number a x source) else (Err Full, a)
-
-abbrev pub made_up : {E I : Type 0} → (ℕ → I) → Bool → E → Option Pointer → Sourced E I → Checked I × Sourced E I
-made_up number t x source a = if t then (Ok (number (length a.entries)), with_made a x source) else (Err Full, a)
 
 -- what is stored
 
@@ -104,22 +115,73 @@ went_refl a = record {
   owners = λ m. (prefix_refl _, m);
 }
 
--- the arenas are those of before, and so are the bindings, what owns them, and where the assignee expression leads
-abbrev Arenas : Stored → Stored → Type 0
-Arenas a b = (b.exprs ≡ a.exprs) × ((b.labels ≡ a.labels) × ((b.pats ≡ a.pats) × ((b.types ≡ a.types) × ((b.lifetimes ≡ a.lifetimes)
-    × ((b.bindings.entries ≡ a.bindings.entries) × ((b.bindings.owners ≡ a.bindings.owners) × (b.target_map ≡ a.target_map)))))))
+-- the arenas, the bindings with their owners, and where assignee expressions lead
+abbrev Arenas : Type 0
+Arenas = Sourced Expr ExprId × Sourced Label LabelId × Sourced Pat PatId × Sourced TypeRef TypeRefId × Sourced LifetimeRef LifetimeRefId
+    × List Binding × List (Option ExprId) × List (Pointer × PatId)
 
-pub went_same : (a b : Stored) → Arenas a b → Went a b
-went_same a b e = rw (e.0, e.1.0, e.1.1.0, e.1.1.1.0, e.1.1.1.1.0, e.1.1.1.1.1.0, e.1.1.1.1.1.1.0, e.1.1.1.1.1.1.1) (record {
-  exprs = onward_refl expr_place _;
-  labels = onward_refl label_place _;
-  pats = onward_refl pat_place _;
-  targets = on_refl pat_place _ _;
-  types = onward_refl type_place _;
-  lifetimes = onward_refl lifetime_place _;
-  bindings = prefix_refl _;
-  owners = λ m. (prefix_refl _, m);
-})
+abbrev pub arenas : Stored → Arenas
+arenas s = (s.exprs, s.labels, s.pats, s.types, s.lifetimes, s.bindings.entries, s.bindings.owners, s.target_map)
+
+pub went_same : (a b : Stored) → arenas b ≡ arenas a → Went a b
+went_same a b e =
+    let exprs : b.exprs ≡ a.exprs = ap (λ x. x.0) e in
+    let labels : b.labels ≡ a.labels = ap (λ x. x.1) e in
+    let pats : b.pats ≡ a.pats = ap (λ x. x.2) e in
+    let types : b.types ≡ a.types = ap (λ x. x.3) e in
+    let lifetimes : b.lifetimes ≡ a.lifetimes = ap (λ x. x.4) e in
+    let bindings : b.bindings.entries ≡ a.bindings.entries = ap (λ x. x.5) e in
+    let owners : b.bindings.owners ≡ a.bindings.owners = ap (λ x. x.6) e in
+    let targets : b.target_map ≡ a.target_map = ap (λ x. x.7) e in rw (exprs, labels, pats, types, lifetimes, bindings, owners, targets)
+    (record {
+      exprs = onward_refl expr_place _;
+      labels = onward_refl label_place _;
+      pats = onward_refl pat_place _;
+      targets = on_refl pat_place _ _;
+      types = onward_refl type_place _;
+      lifetimes = onward_refl lifetime_place _;
+      bindings = prefix_refl _;
+      owners = λ m. (prefix_refl _, m);
+    })
+
+-- one arena becomes another one
+
+pub went_exprs : {s t : Stored} → Went s t → (a : Sourced Expr ExprId) → Onward expr_place s.exprs a → Went s (record t { exprs = a })
+went_exprs w a h = record {
+  exprs = h;
+  labels = w.labels;
+  pats = w.pats;
+  targets = w.targets;
+  types = w.types;
+  lifetimes = w.lifetimes;
+  bindings = w.bindings;
+  owners = w.owners;
+}
+
+pub went_pats : {s t : Stored} → Went s t → (a : Sourced Pat PatId) → Onward pat_place s.pats a → Went s (record t { pats = a })
+went_pats w a h = record {
+  exprs = w.exprs;
+  labels = w.labels;
+  pats = h;
+  targets = w.targets;
+  types = w.types;
+  lifetimes = w.lifetimes;
+  bindings = w.bindings;
+  owners = w.owners;
+}
+
+pub went_types : {s t : Stored} → Went s t → (a : Sourced TypeRef TypeRefId) → Onward type_place s.types a
+    → Went s (record t { types = a })
+went_types w a h = record {
+  exprs = w.exprs;
+  labels = w.labels;
+  pats = w.pats;
+  targets = w.targets;
+  types = h;
+  lifetimes = w.lifetimes;
+  bindings = w.bindings;
+  owners = w.owners;
+}
 
 pub went_trans : (a b c : Stored) → Went a b → Went b c → Went a c
 went_trans a b c g h = record {
@@ -224,5 +286,44 @@ weaker {A = A} {L = L} {M = M} {p = p} less h = record { goes = λ b. by b (p b)
 pub anyway : {A : Type 0} {L : Low A} {p : Lowering A} → Leading L p → Leading any p
 anyway h = weaker (λ s a l. tt) h
 
+-- steps of three kinds, by what they store
+
+-- one that leaves the arenas as they were
+pub leading_aside : {A : Type 0} {p : Lowering A} → ((b : Builder) → arenas (p b).1.stored ≡ arenas b.stored) → Leading any p
+leading_aside {A = A} {p = p} same = record { goes = λ b. by b (p b).0 (p b).1 (went_same _ _ (same b)) }
+  where
+    by : (b : Builder) (o : Checked A) (c : Builder) → Went b.stored c.stored → Goes any b o c
+    by b (Ok a) c w = (w, tt)
+    by b (Err e) c w = w
+
 pub leading_pure : {A : Type 0} (a : A) → Leading any (pure a)
-leading_pure a = record { goes = λ b. (went_same _ _ (refl, (refl, (refl, (refl, (refl, (refl, (refl, refl))))))), tt) }
+leading_pure a = leading_aside (λ b. refl)
+
+-- one that adds an entry to an arena where there is room, and answers its number
+module _ {T I : Type 0} (arena : Stored → T) (put : Stored → T → Stored) (has_room : T → Bool) (number : T → I) (more : T → T) where
+  abbrev added : Bool → T → Checked I × T
+  added room a = if room then (Ok (number a), more a) else (Err Full, a)
+
+  pub leading_added : {L : Low I} → ((s : Stored) → Went s (put s (more (arena s))) × L s (number (arena s)))
+      → ((s : Stored) → Went s (put s (arena s)))
+      → Leading L (stored (λ s. ((added (has_room (arena s)) (arena s)).0, put s (added (has_room (arena s)) (arena s)).1)))
+  leading_added {L = L} new same = record { goes = λ b. by b (has_room (arena b.stored)) }
+    where
+      by : (b : Builder) (room : Bool)
+          → Goes L b (added room (arena b.stored)).0 (record b { stored = put b.stored (added room (arena b.stored)).1 })
+      by b true = new b.stored
+      by b false = same b.stored
+
+-- one behind which the builder changes, and which answers what it answers
+abbrev pub changing : (Builder → Builder) → Lowering (Unit {0})
+changing f = λ b. (Ok tt, f b)
+
+pub leading_changing : {A : Type 0} {L : Low A} {p : Lowering A} (change : A → Builder → Builder)
+    → ((s : Stored) (a : A) (c : Builder) → Went s c.stored → L s a → Went s (change a c).stored)
+    → Leading L p → Leading L (p >>= (λ a. changing (change a) >>= (λ _. pure a)))
+leading_changing {A = A} {L = L} {p = p} change went h = record { goes = λ b. by b (p b).0 (p b).1 (h.goes b) }
+  where
+    by : (b : Builder) (o : Checked A) (c : Builder) → Goes L b o c
+        → let r = go_on o c (λ a. changing (change a) >>= (λ _. pure a)) in Goes L b r.0 r.1
+    by b (Ok a) c x = (went b.stored a c x.0 x.1, x.1)
+    by b (Err e) c x = x

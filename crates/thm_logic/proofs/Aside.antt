@@ -1,15 +1,15 @@
 -- Steps that store beside expressions and labels at most: they report nothing and enter no block. What stores one type or one
 -- lifetime is such; a whole type or path isn't, since the constants in it are expressions.
-use Rattle.std.proofs.Common.{◌≡◌, ◌∙◌, ap, List, Option, Some, None}
+use Rattle.std.proofs.Common.{◌≡◌, ap, List, Option, Some, None}
 use Rattle.hir_store.specs.Pointers.{Pointer}
 use Rattle.hir_store.specs.Stored.{Stored}
 use Rattle.hir_store.specs.declared.type_ref.TypeRef.{TypeRef}
 use Rattle.hir_store.specs.declared.type_ref.LifetimeRef.{LifetimeRef}
 use Rattle.hir_lower_builder.specs.declared.walk.Reading.{Reading}
-use Rattle.hir_lower_builder.specs.Lowering.{Lowering, ◌>>=◌, pure, alloc_type, alloc_lifetime}
+use Rattle.hir_lower_builder.specs.Lowering.{pure, alloc_type, alloc_lifetime}
 use Rattle.hir_lower_builder.specs.Paths.{or_count_out}
 use Rattle.thm_logic.proofs.Frames.{Frame}
-use Rattle.thm_logic.proofs.Steps.{Mark, Correct, correct_bind, correct_as, correct_pure, correct_count_out, correct_alloc_type}
+use Rattle.thm_logic.proofs.Steps.{Mark, Correct, correct_as, correct_pure, correct_count_out, correct_alloc_type}
 use Rattle.thm_logic.proofs.Steps.{correct_alloc_lifetime}
 
 pub record Aside {A : Type 0} (final : Stored) (ps : List Frame) (m m' : Mark) (a : A) : Type 0 where

@@ -1,5 +1,5 @@
 -- What is told of macro calls, and that their nodes lead to what they stand for: steps by what they do.
-use Rattle.std.proofs.Common.{◌≡◌, ◌∙◌, refl, sym, ap, subst, List, [], ◌∷◌, ◌++◌, map, Option, Some, None, Ok}
+use Rattle.std.proofs.Common.{[], ◌≡◌, ◌∙◌, refl, sym, ap, subst, List, ◌∷◌, ◌++◌, map, Option, Some, None, Ok}
 use Rattle.std.proofs.Common.{append-nil, append_assoc}
 use Rattle.hir_base.specs.declared.node.HirFileId.{HirFileId}
 use Rattle.hir_base.specs.declared.node.TextRange.{TextRange}
@@ -27,11 +27,12 @@ use Rattle.hir_lower_builder.specs.Lowering.{report}
 use Rattle.thm_logic.specs.Calls.{Expansions, called_faults, condition_faults, eager_expansion, expansions_of_called}
 use Rattle.thm_logic.specs.Calls.{expansions_of_each, expansions_of_entered, expansions_of_gone, with_emitted}
 use Rattle.thm_logic.proofs.Apart.{Apart, apart_stored}
-use Rattle.thm_logic.proofs.Logic.{mark, Holds, Correct, correct_as, grows_still}
+use Rattle.thm_logic.proofs.Logic.{Holds, Correct, correct_as}
 use Rattle.thm_logic.proofs.Mapping.{leads_mapping}
-use Rattle.thm_logic.proofs.PatSteps.{PatWrites}
+use Rattle.thm_logic.proofs.PatSteps.{PatWrites, correct_pat_write}
 use Rattle.thm_logic.proofs.Steps.{Writes}
 use Rattle.thm_logic.proofs.Yields.{LeavesTo, Still, still_stored}
+use Rattle.thm_logic.proofs.Entries.{answers_stored}
 
 abbrev Faults : Type 0
 Faults = List ExpressionStoreDiagnostics
@@ -121,18 +122,8 @@ extends_emitted es ds s = record {
 
 pub correct_only : {es : Expansions} {ds : Faults} {p : Lowering (Unit {0})} → Only es ds p → Correct p (PatWrites (with_emitted es ds))
 correct_only {es = es} {ds = ds} {p = p} h = record {
-  holds = λ final ps b r. subst (λ r. Holds (PatWrites (with_emitted es ds)) final ps b r.0 r.1) (sym (h.is b)) (record {
-    kept = record {
-      scopes = refl;
-      in_root = refl;
-      roots = λ t. refl;
-      paired = λ d. record { exprs = d.exprs; labels = d.labels; pats = d.pats; types = d.types; lifetimes = d.lifetimes };
-      mapped = λ d w. record { types = w.types; lifetimes = w.lifetimes };
-      stays = extends_emitted es ds b.stored;
-    };
-    grows = grows_still (mark b) _ refl;
-    in_final = λ d pre. record { counts_are = refl; stored = refl };
-  });
+  holds = λ final ps b r. subst (λ r. Holds (PatWrites (with_emitted es ds)) final ps b r.0 r.1) (sym (h.is b))
+      ((correct_pat_write (with_emitted es ds) (λ s. refl) (extends_emitted es ds)).holds final ps b r);
 }
 
 -- in the terms of what writes
@@ -169,20 +160,7 @@ pointing_pat p id s = record s { pats = with_mapping s.pats p id }
 
 pub correct_point_pat : (node : Pointer) (id : PatId) → Correct (point_pat node id) (PatWrites (pointing_pat node id))
 unfolding point_pat store_sink.point_pat
-correct_point_pat node id = record {
-  holds = λ final ps b r. record {
-    kept = record {
-      scopes = refl;
-      in_root = refl;
-      roots = λ t. refl;
-      paired = λ d. record { exprs = d.exprs; labels = d.labels; pats = d.pats; types = d.types; lifetimes = d.lifetimes };
-      mapped = λ d w. record { types = w.types; lifetimes = w.lifetimes };
-      stays = extends_point_pat b.stored node id;
-    };
-    grows = grows_still (mark b) _ refl;
-    in_final = λ d pre. record { counts_are = refl; stored = refl };
-  };
-}
+correct_point_pat node id = correct_pat_write (pointing_pat node id) (λ s. refl) (λ s. extends_point_pat s node id)
 
 abbrev pub pointing_type : Pointer → TypeRefId → Stored → Stored
 pointing_type p id s = record s { types = with_mapping s.types p id }
@@ -190,18 +168,10 @@ pointing_type p id s = record s { types = with_mapping s.types p id }
 pub correct_point_type : (node : Pointer) (id : TypeRefId) → Correct (point_type node id) (PatWrites (pointing_type node id))
 unfolding point_type store_sink.point_type
 correct_point_type node id = record {
-  holds = λ final ps b r. record {
-    kept = record {
-      scopes = refl;
-      in_root = refl;
-      roots = λ t. refl;
-      paired = λ d. record { exprs = d.exprs; labels = d.labels; pats = d.pats; types = d.types; lifetimes = d.lifetimes };
-      mapped = λ d w. record { types = leads_mapping b.stored.types w.types node id; lifetimes = w.lifetimes };
-      stays = extends_point_type b.stored node id;
-    };
-    grows = grows_still (mark b) _ refl;
-    in_final = λ d pre. record { counts_are = refl; stored = refl };
-  };
+  holds = λ final ps b r. answers_stored b (pointing_type node id b.stored) refl
+      (λ d. record { exprs = d.exprs; labels = d.labels; pats = d.pats; types = d.types; lifetimes = d.lifetimes })
+      (λ d w. record { types = leads_mapping b.stored.types w.types node id; lifetimes = w.lifetimes })
+      (extends_point_type b.stored node id) (λ d pre. record { counts_are = refl; stored = refl });
 }
 
 abbrev pub pointing_target : Pointer → PatId → Stored → Stored
@@ -209,20 +179,8 @@ pointing_target p id s = record s { target_map = entered p id s.target_map }
 
 pub correct_point_target : (node : Pointer) (id : PatId) → Correct (point_target node id) (PatWrites (pointing_target node id))
 unfolding point_target store_sink.point_target
-correct_point_target node id = record {
-  holds = λ final ps b r. record {
-    kept = record {
-      scopes = refl;
-      in_root = refl;
-      roots = λ t. refl;
-      paired = λ d. record { exprs = d.exprs; labels = d.labels; pats = d.pats; types = d.types; lifetimes = d.lifetimes };
-      mapped = λ d w. record { types = w.types; lifetimes = w.lifetimes };
-      stays = extends_point_target b.stored node id;
-    };
-    grows = grows_still (mark b) _ refl;
-    in_final = λ d pre. record { counts_are = refl; stored = refl };
-  };
-}
+correct_point_target node id =
+    correct_pat_write (pointing_target node id) (λ s. refl) (λ s. extends_point_target s node id)
 
 pub still_point_pat : (node : Pointer) (id : PatId) → Still (point_pat node id)
 unfolding point_pat

@@ -16,14 +16,19 @@ use Rattle.hir_store.specs.declared.type_ref.TypeRef.{TypeRef}
 use Rattle.hir_store.proofs.Arenas.{continues_refl, prefix_refl}
 use Rattle.hir_store.proofs.BindingLemmas.{bindings_refl}
 
-pub exprs_go_on : (s : Stored) (a : Sourced Expr ExprId) → Continues s.exprs a → Extends s (record s { exprs = a })
-exprs_go_on s a h = record {
-  exprs = h;
-  labels = continues_refl s.labels;
-  pats = continues_refl s.pats;
-  bindings = bindings_refl s.bindings;
-  types = continues_refl s.types;
-  lifetimes = continues_refl s.lifetimes;
+arenas_go_on : (s : Stored) {exprs : Sourced Expr ExprId} {labels : Sourced Label LabelId} {pats : Sourced Pat PatId}
+    {bindings : Bindings} {types : Sourced TypeRef TypeRefId} {lifetimes : Sourced LifetimeRef LifetimeRefId}
+    → Continues s.exprs exprs → Continues s.labels labels → Continues s.pats pats → BindingsContinue s.bindings bindings
+    → Continues s.types types → Continues s.lifetimes lifetimes
+    → Extends s
+    (record s { exprs = exprs; labels = labels; pats = pats; bindings = bindings; types = types; lifetimes = lifetimes })
+arenas_go_on s exprs labels pats bindings types lifetimes = record {
+  exprs = exprs;
+  labels = labels;
+  pats = pats;
+  bindings = bindings;
+  types = types;
+  lifetimes = lifetimes;
   roots = prefix_refl s.roots;
   target_nodes = prefix_refl _;
   field_map_back = prefix_refl s.field_map_back;
@@ -33,88 +38,27 @@ exprs_go_on s a h = record {
   diagnostics = prefix_refl s.diagnostics;
 }
 
-pub labels_go_on : (s : Stored) (a : Sourced Label LabelId) → Continues s.labels a → Extends s (record s { labels = a })
-labels_go_on s a h = record {
-  exprs = continues_refl s.exprs;
-  labels = h;
-  pats = continues_refl s.pats;
-  bindings = bindings_refl s.bindings;
-  types = continues_refl s.types;
-  lifetimes = continues_refl s.lifetimes;
-  roots = prefix_refl s.roots;
-  target_nodes = prefix_refl _;
-  field_map_back = prefix_refl s.field_map_back;
-  pat_field_map_back = prefix_refl s.pat_field_map_back;
-  block_scopes = prefix_refl s.block_scopes;
-  expansions = prefix_refl s.expansions;
-  diagnostics = prefix_refl s.diagnostics;
-}
+module _ (s : Stored) where
+  pub exprs_go_on : (a : Sourced Expr ExprId) → Continues s.exprs a → Extends s (record s { exprs = a })
+  exprs_go_on a h = arenas_go_on s h (continues_refl s.labels) (continues_refl s.pats) (bindings_refl s.bindings) (continues_refl s.types)
+      (continues_refl s.lifetimes)
 
-pub pats_go_on : (s : Stored) (a : Sourced Pat PatId) → Continues s.pats a → Extends s (record s { pats = a })
-pats_go_on s a h = record {
-  exprs = continues_refl s.exprs;
-  labels = continues_refl s.labels;
-  pats = h;
-  bindings = bindings_refl s.bindings;
-  types = continues_refl s.types;
-  lifetimes = continues_refl s.lifetimes;
-  roots = prefix_refl s.roots;
-  target_nodes = prefix_refl _;
-  field_map_back = prefix_refl s.field_map_back;
-  pat_field_map_back = prefix_refl s.pat_field_map_back;
-  block_scopes = prefix_refl s.block_scopes;
-  expansions = prefix_refl s.expansions;
-  diagnostics = prefix_refl s.diagnostics;
-}
+  pub labels_go_on : (a : Sourced Label LabelId) → Continues s.labels a → Extends s (record s { labels = a })
+  labels_go_on a h = arenas_go_on s (continues_refl s.exprs) h (continues_refl s.pats) (bindings_refl s.bindings) (continues_refl s.types)
+      (continues_refl s.lifetimes)
 
-pub bindings_go_on : (s : Stored) (a : Bindings) → BindingsContinue s.bindings a → Extends s (record s { bindings = a })
-bindings_go_on s a h = record {
-  exprs = continues_refl s.exprs;
-  labels = continues_refl s.labels;
-  pats = continues_refl s.pats;
-  bindings = h;
-  types = continues_refl s.types;
-  lifetimes = continues_refl s.lifetimes;
-  roots = prefix_refl s.roots;
-  target_nodes = prefix_refl _;
-  field_map_back = prefix_refl s.field_map_back;
-  pat_field_map_back = prefix_refl s.pat_field_map_back;
-  block_scopes = prefix_refl s.block_scopes;
-  expansions = prefix_refl s.expansions;
-  diagnostics = prefix_refl s.diagnostics;
-}
+  pub pats_go_on : (a : Sourced Pat PatId) → Continues s.pats a → Extends s (record s { pats = a })
+  pats_go_on a h = arenas_go_on s (continues_refl s.exprs) (continues_refl s.labels) h (bindings_refl s.bindings) (continues_refl s.types)
+      (continues_refl s.lifetimes)
 
-pub types_go_on : (s : Stored) (a : Sourced TypeRef TypeRefId) → Continues s.types a → Extends s (record s { types = a })
-types_go_on s a h = record {
-  exprs = continues_refl s.exprs;
-  labels = continues_refl s.labels;
-  pats = continues_refl s.pats;
-  bindings = bindings_refl s.bindings;
-  types = h;
-  lifetimes = continues_refl s.lifetimes;
-  roots = prefix_refl s.roots;
-  target_nodes = prefix_refl _;
-  field_map_back = prefix_refl s.field_map_back;
-  pat_field_map_back = prefix_refl s.pat_field_map_back;
-  block_scopes = prefix_refl s.block_scopes;
-  expansions = prefix_refl s.expansions;
-  diagnostics = prefix_refl s.diagnostics;
-}
+  pub bindings_go_on : (a : Bindings) → BindingsContinue s.bindings a → Extends s (record s { bindings = a })
+  bindings_go_on a h = arenas_go_on s (continues_refl s.exprs) (continues_refl s.labels) (continues_refl s.pats) h (continues_refl s.types)
+      (continues_refl s.lifetimes)
 
-pub lifetimes_go_on : (s : Stored) (a : Sourced LifetimeRef LifetimeRefId) → Continues s.lifetimes a
-    → Extends s (record s { lifetimes = a })
-lifetimes_go_on s a h = record {
-  exprs = continues_refl s.exprs;
-  labels = continues_refl s.labels;
-  pats = continues_refl s.pats;
-  bindings = bindings_refl s.bindings;
-  types = continues_refl s.types;
-  lifetimes = h;
-  roots = prefix_refl s.roots;
-  target_nodes = prefix_refl _;
-  field_map_back = prefix_refl s.field_map_back;
-  pat_field_map_back = prefix_refl s.pat_field_map_back;
-  block_scopes = prefix_refl s.block_scopes;
-  expansions = prefix_refl s.expansions;
-  diagnostics = prefix_refl s.diagnostics;
-}
+  pub types_go_on : (a : Sourced TypeRef TypeRefId) → Continues s.types a → Extends s (record s { types = a })
+  types_go_on a h = arenas_go_on s (continues_refl s.exprs) (continues_refl s.labels) (continues_refl s.pats) (bindings_refl s.bindings) h
+      (continues_refl s.lifetimes)
+
+  pub lifetimes_go_on : (a : Sourced LifetimeRef LifetimeRefId) → Continues s.lifetimes a → Extends s (record s { lifetimes = a })
+  lifetimes_go_on a h = arenas_go_on s (continues_refl s.exprs) (continues_refl s.labels) (continues_refl s.pats)
+      (bindings_refl s.bindings) (continues_refl s.types) h

@@ -1,6 +1,7 @@
 pub mod Frames
 pub mod Logic
 pub mod Extended
+pub mod Entries
 pub mod Always
 pub mod TypeSteps
 pub mod Mapping

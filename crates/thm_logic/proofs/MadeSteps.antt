@@ -1,14 +1,13 @@
 -- Steps that make up what nobody wrote: nodes that their source doesn't lead to, names, and `try`s with labels of made names.
-use Rattle.std.proofs.Common.{◌≡◌, ◌^◌, suc, Bool, true, false, if◌then◌else◌, nat_lt, slice_get, map, List, []}
-use Rattle.std.proofs.Common.{◌∷◌, length, Option, Some, None, Ok, Err, refl, sym, ap, subst, ◌∙◌, arith, length-append, ℕ}
+use Rattle.std.proofs.Common.{◌≡◌, ◌^◌, suc, Bool, true, false, if◌then◌else◌, nat_lt, slice_get, map, List}
+use Rattle.std.proofs.Common.{length, Option, Some, None, Ok, Err, refl, ap, subst, ◌∙◌, arith, ℕ}
 use Rattle.hir_binding.specs.declared.binding.BindingAnnotation.{BindingAnnotation}
 use Rattle.hir_store.specs.Pointers.{Pointer}
-use Rattle.hir_store.specs.Arenas.{Sourced, with_made}
+use Rattle.hir_store.specs.Arenas.{with_made}
 use Rattle.hir_store.specs.Bindings.{without_problem}
 use Rattle.hir_store.specs.Stored.{Stored}
 use Rattle.hir_store.specs.StoreSink as store_sink
 use Rattle.hir_store.specs.StoreSink.{expr_id}
-use Rattle.hir_store.specs.declared.error.StoreError.TheVariants.{Full}
 use Rattle.hir_store.specs.declared.hir.Expr.{Expr}
 use Rattle.hir_store.specs.declared.ids.BindingId.{BindingId}
 use Rattle.hir_store.specs.declared.ids.ExprId.{ExprId}
@@ -16,10 +15,8 @@ use Rattle.hir_store.specs.declared.ids.LabelId.{LabelId}
 use Rattle.hir_store.specs.declared.ids.PatId.{PatId}
 use Rattle.hir_store.specs.declared.name.Name.TheVariants.{Generated}
 use Rattle.hir_store.specs.declared.pat.Pat.TheVariants as pat
-use Rattle.hir_store.proofs.Arenas.{continues_made}
 use Rattle.hir_store.proofs.Extending.{extends_refl}
 use Rattle.hir_env.specs.ResolvedTree.{Label}
-use Rattle.thm_logic.proofs.Extended.{exprs_go_on}
 use Rattle.hir_lower_scope.specs.ScopeRibs.{Rib, try_rib, Try, innermost_try_rib}
 use Rattle.hir_lower_builder.specs.Builder.{Builder}
 use Rattle.hir_lower_builder.specs.Forms.{root_hygiene}
@@ -29,9 +26,10 @@ use Rattle.hir_lower_builder.specs.Lowering.{try_target, close}
 use Rattle.hir_lower_builder.specs.Made.{made_binding, made_bind_form}
 use Rattle.thm_logic.proofs.Frames.{Frame, try_at, ribs}
 use Rattle.thm_logic.proofs.PatSteps.{correct_alloc_binding, correct_alloc_pat, correct_define, defining, with_new_binding, with_pat}
-use Rattle.thm_logic.proofs.Logic.{grows_refl, in_prefix, one_more}
-use Rattle.thm_logic.proofs.Steps.{Mark, mark, Rel, Holds, Correct, AllocatedBy, Put, kept_still, EnteredBy, Opens, Seq}
+use Rattle.thm_logic.proofs.Logic.{grows_refl}
+use Rattle.thm_logic.proofs.Steps.{Mark, mark, Rel, Holds, Correct, AllocatedBy, Put, kept_still, EnteredBy, Opens, Seq, allocated_expr}
 use Rattle.thm_logic.proofs.Steps.{correct_as, correct_bind, correct_entered, correct_pure, opening, opens_as}
+use Rattle.thm_logic.proofs.Entries.{correct_added, has_room, made_more}
 
 -- a node
 
@@ -41,59 +39,11 @@ put_made e source s = record s { exprs = with_made s.exprs e source }
 abbrev pub AllocatedMade : Expr → Option Pointer → Rel ExprId
 AllocatedMade = AllocatedBy put_made
 
--- an entry more, where the limit allows one
-abbrev made_expr : Bool → Expr → Option Pointer → Sourced Expr ExprId → Checked ExprId × Sourced Expr ExprId
-made_expr t e source a = if t then (Ok (expr_id (length a.entries)), with_made a e source) else (Err Full, a)
-
 pub correct_alloc_desugared : (e : Expr) (source : Option Pointer) → Correct (alloc_desugared e source) (AllocatedMade e source)
 unfolding alloc_desugared store_sink.alloc_desugared
-correct_alloc_desugared e source =
-    record { holds = λ final ps b r. go final ps b (nat_lt (length b.stored.exprs.entries) b.stored.exprs.limit) }
-  where
-    go : (final : Stored) (ps : List Frame) (b : Builder) (t : Bool)
-        → Holds (AllocatedMade e source) final ps b (made_expr t e source b.stored.exprs).0
-        (record b { stored = record b.stored { exprs = (made_expr t e source b.stored.exprs).1 } })
-    go final ps b true =
-        let s = b.stored in
-        let xs = s.exprs.entries in
-        let ss = s.exprs.sources in
-        let grown = length-append xs (e ∷ []) in record {
-          kept = record {
-            scopes = refl;
-            in_root = refl;
-            roots = λ t. refl;
-            paired = λ d. record {
-              exprs = one_more xs e ss source d.exprs;
-              labels = d.labels;
-              pats = d.pats;
-              types = d.types;
-              lifetimes = d.lifetimes;
-            };
-            mapped = λ d w. record { types = w.types; lifetimes = w.lifetimes };
-            stays = exprs_go_on s _ (continues_made s.exprs e source);
-          };
-          grows = record {
-            nodes = omega arith;
-            labels = omega arith;
-            pats = omega arith;
-            bindings = omega arith;
-            types = omega arith;
-            lifetimes = omega arith;
-            entries = omega arith;
-            names = omega arith;
-          };
-          in_final = λ d pre. record {
-            number = refl;
-            here = in_prefix xs e (length xs) refl pre.exprs.entries;
-            from = in_prefix ss source (length xs) (sym d.exprs) pre.exprs.sources;
-            next = omega arith;
-            labels = refl;
-            last = refl;
-            names = refl;
-            stored = refl;
-          };
-        }
-    go final ps b false = extends_refl b.stored
+correct_alloc_desugared e source = correct_added (λ s. s.exprs) (λ s a. record s { exprs = a }) has_room
+    (λ a. expr_id (length a.entries)) (λ a. with_made a e source)
+    (λ final ps b. allocated_expr put_made e source _ final ps b (made_more e source b.stored.exprs) refl) extends_refl
 
 -- names
 

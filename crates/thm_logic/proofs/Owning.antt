@@ -8,10 +8,11 @@ use Rattle.hir_store.specs.declared.ids.ExprId.{ExprId}
 use Rattle.hir_store.proofs.Extending.{extends_owner}
 use Rattle.hir_lower_builder.specs.Lowering.{Lowering, bindings_end, own, owning}
 use Rattle.thm_logic.proofs.Frames.{Frame}
-use Rattle.thm_logic.proofs.Logic.{Mark, mark, Grows, Rel, Correct, correct_as, correct_bind, correct_pure, grows_refl, grows_still}
+use Rattle.thm_logic.proofs.Logic.{Mark, mark, Grows, Rel, Correct, correct_as, correct_bind, correct_pure, grows_refl}
 use Rattle.thm_logic.proofs.Logic.{kept_still}
 use Rattle.thm_logic.proofs.Yields.{Still, Raises, raises_begin, raises_end, raises_pure, raises_still}
 use Rattle.thm_logic.proofs.Yields.{still_pure, still_stored, still_then}
+use Rattle.thm_logic.proofs.Entries.{correct_write}
 
 -- steps
 
@@ -42,20 +43,7 @@ pub record Owned (start : BindingId) (id : ExprId) (final : Stored) (ps : List F
 
 pub correct_own : (start : BindingId) (id : ExprId) → Correct (own start id) (Owned start id)
 unfolding own store_sink.own
-correct_own start id = record {
-  holds = λ final ps b r. record {
-    kept = record {
-      scopes = refl;
-      in_root = refl;
-      roots = λ t. refl;
-      paired = λ d. record { exprs = d.exprs; labels = d.labels; pats = d.pats; types = d.types; lifetimes = d.lifetimes };
-      mapped = λ d w. record { types = w.types; lifetimes = w.lifetimes };
-      stays = extends_owner b.stored start id;
-    };
-    grows = grows_still (mark b) _ refl;
-    in_final = λ d pre. record { is = refl };
-  };
-}
+correct_own start id = correct_write (with_owned start id) (λ s. refl) (λ s. extends_owner s start id) (λ final ps b. record { is = refl })
 
 -- no `yield` stands in them
 

@@ -1,6 +1,6 @@
 -- What the steps of lowering bring about in a final store.
-use Rattle.std.proofs.Common.{◌≡◌, ℕ, suc, ◌+◌, Bool, true, false, if◌then◌else◌, nat_lt, slice_get, List, []}
-use Rattle.std.proofs.Common.{◌∷◌, ◌++◌, length, Option, Some, None, Ok, Err, refl, sym, ap, ◌∙◌, arith, length-append}
+use Rattle.std.proofs.Common.{[], ◌≡◌, ℕ, suc, ◌+◌, Bool, true, false, if◌then◌else◌, nat_lt, slice_get, List}
+use Rattle.std.proofs.Common.{◌∷◌, ◌++◌, length, Option, Some, None, Ok, Err, refl, sym, ap, ◌∙◌, arith}
 use Rattle.hir_store.specs.Pointers.{Pointer}
 use Rattle.hir_store.specs.Arenas.{Sourced, with_entry, with_mapping}
 use Rattle.hir_store.specs.Stored.{Stored}
@@ -18,14 +18,13 @@ use Rattle.hir_store.specs.declared.diagnostics.ExpressionStoreDiagnostics.TheVa
 use Rattle.hir_store.specs.declared.diagnostics.ExpressionStoreDiagnostics.TheVariants.{UndeclaredLabel}
 use Rattle.hir_store.specs.declared.diagnostics.ExpressionStoreDiagnostics.TheVariants.{UnreachableLabel}
 use Rattle.hir_store.specs.declared.diagnostics.AwaitLocation.{AwaitLocation}
-use Rattle.hir_store.proofs.Arenas.{continues_entry}
 use Rattle.hir_store.proofs.Extending.{extends_refl, extends_trans, extends_point, extends_field, extends_report, extends_block}
 use Rattle.hir_env.specs.ResolvedTree.{Label, Jump}
 use Rattle.thm_logic.proofs.Extended.{exprs_go_on, labels_go_on}
 use Rattle.hir_lower_scope.specs.ScopeRibs.{Rib, Target, reachable, unreachable, undeclared, target, number_found, jump_number}
 use Rattle.hir_lower_scope.specs.Labels.{rest}
 use Rattle.hir_lower_builder.specs.Builder.{Builder}
-use Rattle.hir_lower_builder.specs.Lowering.{Checked, go_on, Lowering, ◌>>=◌, pure, alloc_expr, point, point_field, report}
+use Rattle.hir_lower_builder.specs.Lowering.{Checked, go_on, Lowering, ◌>>=◌, pure, alloc_expr, point, point_field, report, stored}
 use Rattle.hir_lower_builder.specs.Lowering.{report_await, enter_block, open_label, close, jump_target, found_or_fault, count_out}
 use Rattle.thm_logic.specs.Keeps.{Paired, Mapped}
 use Rattle.thm_logic.proofs.Frames.{Frame, rib, ribs}
@@ -33,7 +32,9 @@ pub use Rattle.thm_logic.proofs.Logic.{Mark, mark, Grows, Rel, Answers, Holds, C
 pub use Rattle.thm_logic.proofs.Logic.{correct_bind, correct_as, correct_both, correct_in_store, correct_pure}
 pub use Rattle.thm_logic.proofs.TypeSteps.{AllocatedType, AllocatedLifetime, with_type, with_lifetime, correct_alloc_type}
 pub use Rattle.thm_logic.proofs.TypeSteps.{correct_alloc_lifetime}
-use Rattle.thm_logic.proofs.Logic.{grows_refl, grows_still, in_prefix, one_more}
+use Rattle.thm_logic.proofs.Logic.{grows_refl}
+use Rattle.thm_logic.proofs.Entries.{OneMore, answers_stored, contents, correct_added, correct_write, counted_more, counts_written}
+use Rattle.thm_logic.proofs.Entries.{entry_at, entry_more, has_room, paired_more, source_at}
 
 -- refused at the end of a counter
 pub correct_count_out : {A : Type 0} (R : Rel A) → Correct {A = A} count_out R
@@ -66,22 +67,20 @@ abbrev pub with_await : Pointer → Option AwaitLocation → Stored → Stored
 with_await node None s = s
 with_await node (Some location) s = with_fault (AwaitOutsideOfAsync node location) s
 
+correct_writes : (f : Stored → Stored) → ((s : Stored) → contents (f s) ≡ contents s) → ((s : Stored) → Extends s (f s))
+    → Correct {A = Unit {0}} (stored (λ s. (Ok tt, f s))) (Writes tt f)
+correct_writes f same stays = correct_write f same stays (λ final ps b.
+    let counts_are = counts_written f same b in record {
+      is = refl;
+      nodes = ap (λ c. c.0) counts_are;
+      labels = ap (λ c. c.1) counts_are;
+      names = refl;
+      stored = refl;
+    })
+
 pub correct_report : (fault : ExpressionStoreDiagnostics) → Correct (report fault) (Writes tt (with_fault fault))
 unfolding report store_sink.report
-correct_report fault = record {
-  holds = λ final ps b r. record {
-    kept = record {
-      scopes = refl;
-      in_root = refl;
-      roots = λ t. refl;
-      paired = λ d. record { exprs = d.exprs; labels = d.labels; pats = d.pats; types = d.types; lifetimes = d.lifetimes };
-      mapped = λ d w. record { types = w.types; lifetimes = w.lifetimes };
-      stays = extends_report b.stored fault;
-    };
-    grows = grows_still _ _ refl;
-    in_final = λ d pre. record { is = refl; nodes = refl; labels = refl; names = refl; stored = refl };
-  };
-}
+correct_report fault = correct_writes (with_fault fault) (λ s. refl) (λ s. extends_report s fault)
 
 writes_nothing : Correct {A = Unit {0}} (pure tt) (Writes tt (λ s. s))
 writes_nothing = correct_as (correct_pure tt)
@@ -101,55 +100,16 @@ correct_report_await node (Some location) = correct_report (AwaitOutsideOfAsync 
 
 pub correct_point : (node : Pointer) (id : ExprId) → Correct (point node id) (Writes tt (pointing node id))
 unfolding point store_sink.point
-correct_point node id = record {
-  holds = λ final ps b r. record {
-    kept = record {
-      scopes = refl;
-      in_root = refl;
-      roots = λ t. refl;
-      paired = λ d. record { exprs = d.exprs; labels = d.labels; pats = d.pats; types = d.types; lifetimes = d.lifetimes };
-      mapped = λ d w. record { types = w.types; lifetimes = w.lifetimes };
-      stays = extends_point b.stored node id;
-    };
-    grows = grows_still _ _ refl;
-    in_final = λ d pre. record { is = refl; nodes = refl; labels = refl; names = refl; stored = refl };
-  };
-}
+correct_point node id = correct_writes (pointing node id) (λ s. refl) (λ s. extends_point s node id)
 
 pub correct_point_field : (id : ExprId) (node : Pointer) → Correct (point_field id node) (Writes tt (with_field id node))
 unfolding point_field store_sink.point_field
-correct_point_field id node = record {
-  holds = λ final ps b r. record {
-    kept = record {
-      scopes = refl;
-      in_root = refl;
-      roots = λ t. refl;
-      paired = λ d. record { exprs = d.exprs; labels = d.labels; pats = d.pats; types = d.types; lifetimes = d.lifetimes };
-      mapped = λ d w. record { types = w.types; lifetimes = w.lifetimes };
-      stays = extends_field b.stored id node;
-    };
-    grows = grows_still _ _ refl;
-    in_final = λ d pre. record { is = refl; nodes = refl; labels = refl; names = refl; stored = refl };
-  };
-}
+correct_point_field id node = correct_writes (with_field id node) (λ s. refl) (λ s. extends_field s id node)
 
 pub correct_enter_block : (n : Option BlockId) → Correct (enter_block n) (Writes tt (with_block n))
 unfolding enter_block store_sink.enter_block
 correct_enter_block None = writes_nothing
-correct_enter_block (Some n) = record {
-  holds = λ final ps b r. record {
-    kept = record {
-      scopes = refl;
-      in_root = refl;
-      roots = λ t. refl;
-      paired = λ d. record { exprs = d.exprs; labels = d.labels; pats = d.pats; types = d.types; lifetimes = d.lifetimes };
-      mapped = λ d w. record { types = w.types; lifetimes = w.lifetimes };
-      stays = extends_block b.stored n;
-    };
-    grows = grows_still _ _ refl;
-    in_final = λ d pre. record { is = refl; nodes = refl; labels = refl; names = refl; stored = refl };
-  };
-}
+correct_enter_block (Some n) = correct_writes (with_block (Some n)) (λ s. refl) (λ s. extends_block s n)
 
 -- an expression
 
@@ -174,58 +134,37 @@ pub record AllocatedBy (put : Put) (e : Expr) (source : Option Pointer) (final :
 abbrev pub Allocated : Expr → Option Pointer → Rel ExprId
 Allocated = AllocatedBy with_expr
 
--- an entry more, where the limit allows one
-abbrev made_expr : Bool → Expr → Option Pointer → Sourced Expr ExprId → Checked ExprId × Sourced Expr ExprId
-made_expr t e source a = if t then (Ok (expr_id (length a.entries)), with_entry expr_id a e source) else (Err Full, a)
+-- one expression more, with this source, after which the arena is that one
+pub allocated_expr : (put : Put) (e : Expr) (source : Option Pointer) (a : Sourced Expr ExprId) (final : Stored) (ps : List Frame)
+    (b : Builder) → OneMore e source b.stored.exprs a → put e source b.stored ≡ record b.stored { exprs = a }
+    → Answers (AllocatedBy put e source) final ps b (record b { stored = record b.stored { exprs = a } })
+    (expr_id (length b.stored.exprs.entries))
+allocated_expr put e source a final ps b more is = answers_stored b (record b.stored { exprs = a }) refl
+    (λ d. record {
+      exprs = paired_more more d.exprs;
+      labels = d.labels;
+      pats = d.pats;
+      types = d.types;
+      lifetimes = d.lifetimes;
+    })
+    (λ d w. record { types = w.types; lifetimes = w.lifetimes })
+    (exprs_go_on b.stored _ more.continues)
+    (λ d pre. record {
+      number = refl;
+      here = entry_at more pre.exprs;
+      from = source_at more d.exprs pre.exprs;
+      next = counted_more more;
+      labels = refl;
+      last = refl;
+      names = refl;
+      stored = sym is;
+    })
 
 pub correct_alloc : (e : Expr) (source : Option Pointer) → Correct (alloc_expr e source) (Allocated e source)
 unfolding alloc_expr store_sink.alloc_expr
-correct_alloc e source = record { holds = λ final ps b r. go final ps b (nat_lt (length b.stored.exprs.entries) b.stored.exprs.limit) }
-  where
-    go : (final : Stored) (ps : List Frame) (b : Builder) (t : Bool)
-        → Holds (Allocated e source) final ps b (made_expr t e source b.stored.exprs).0
-        (record b { stored = record b.stored { exprs = (made_expr t e source b.stored.exprs).1 } })
-    go final ps b true =
-        let s = b.stored in
-        let xs = s.exprs.entries in
-        let ss = s.exprs.sources in
-        let grown = length-append xs (e ∷ []) in record {
-          kept = record {
-            scopes = refl;
-            in_root = refl;
-            roots = λ t. refl;
-            paired = λ d. record {
-              exprs = one_more xs e ss source d.exprs;
-              labels = d.labels;
-              pats = d.pats;
-              types = d.types;
-              lifetimes = d.lifetimes;
-            };
-            mapped = λ d w. record { types = w.types; lifetimes = w.lifetimes };
-            stays = exprs_go_on s _ (continues_entry expr_id s.exprs e source);
-          };
-          grows = record {
-            nodes = omega arith;
-            labels = omega arith;
-            pats = omega arith;
-            bindings = omega arith;
-            types = omega arith;
-            lifetimes = omega arith;
-            entries = omega arith;
-            names = omega arith;
-          };
-          in_final = λ d pre. record {
-            number = refl;
-            here = in_prefix xs e (length xs) refl pre.exprs.entries;
-            from = in_prefix ss source (length xs) (sym d.exprs) pre.exprs.sources;
-            next = omega arith;
-            labels = refl;
-            last = refl;
-            names = refl;
-            stored = refl;
-          };
-        }
-    go final ps b false = extends_refl b.stored
+correct_alloc e source = correct_added (λ s. s.exprs) (λ s a. record s { exprs = a }) has_room (λ a. expr_id (length a.entries))
+    (λ a. with_entry expr_id a e source)
+    (λ final ps b. allocated_expr with_expr e source _ final ps b (entry_more expr_id e source b.stored.exprs) refl) extends_refl
 
 -- labels
 
@@ -291,28 +230,25 @@ pub opens_as : (r : LabelId → Rib LabelId) (l : Label) (t : Bool) (b : Builder
     → Opens 0 r l b (opening r l t b).0 (opening r l t b).1
 opens_as r l true b =
     let s = b.stored in
-    let x : HirLabel = record { name = l.name } in
-    let xs = s.labels.entries in
-    let ss = s.labels.sources in
-    let grown = length-append xs (x ∷ []) in record {
+    let more = entry_more label_id (record { name = l.name }) (Some l.pointer) s.labels in record {
       scopes = refl;
       in_root = refl;
       roots = refl;
       paired = λ d. record {
         exprs = d.exprs;
-        labels = one_more xs x ss (Some l.pointer) d.labels;
+        labels = paired_more more d.labels;
         pats = d.pats;
         types = d.types;
         lifetimes = d.lifetimes;
       };
       mapped = λ d w. record { types = w.types; lifetimes = w.lifetimes };
-      stays = labels_go_on s _ (continues_entry label_id s.labels x (Some l.pointer));
+      stays = labels_go_on s _ more.continues;
       number = refl;
-      labels = omega arith;
+      labels = counted_more more;
       names = omega arith;
       stored = refl;
-      here = λ final e. in_prefix xs x (length xs) refl e.labels.entries;
-      from = λ d final e. in_prefix ss (Some l.pointer) (length xs) (sym d.labels) e.labels.sources;
+      here = λ final e. entry_at more e.labels;
+      from = λ d final e. source_at more d.labels e.labels;
     }
 opens_as r l false b = extends_refl b.stored
 
@@ -453,6 +389,20 @@ correct_target None = record {
 }
 correct_target (Some j) = record { holds = λ final ps b r. go final ps b (target j b.scopes) (ap (λ rs. target j rs) r) }
   where
+    reported : (final : Stored) (ps : List Frame) (b : Builder) (fault : ExpressionStoreDiagnostics) (o : Target LabelId)
+        → o ≡ target j (ribs ps) → with_target j o b.stored ≡ with_fault fault b.stored
+        → Answers (Targeted (Some j)) final ps b (record b { stored = with_fault fault b.stored }) (number_found o)
+    reported final ps b fault o e is = answers_stored b (with_fault fault b.stored) refl
+        (λ d. record { exprs = d.exprs; labels = d.labels; pats = d.pats; types = d.types; lifetimes = d.lifetimes })
+        (λ d w. record { types = w.types; lifetimes = w.lifetimes }) (extends_report b.stored fault)
+        (λ d pre. record {
+          is = ap number_found e;
+          nodes = refl;
+          labels = refl;
+          names = refl;
+          stored = sym is ∙ ap (λ t. with_target j t b.stored) e;
+        })
+
     go : (final : Stored) (ps : List Frame) (b : Builder) (o : Target LabelId) → o ≡ target j (ribs ps)
         → Holds (Targeted (Some j)) final ps b (found_or_fault j o b).0 (found_or_fault j o b).1
     go final ps b (reachable n) e = record {
@@ -466,39 +416,5 @@ correct_target (Some j) = record { holds = λ final ps b r. go final ps b (targe
         stored = ap (λ t. with_target j t b.stored) e;
       };
     }
-    go final ps b unreachable e = record {
-      kept = record {
-        scopes = refl;
-        in_root = refl;
-        roots = λ t. refl;
-        paired = λ d. record { exprs = d.exprs; labels = d.labels; pats = d.pats; types = d.types; lifetimes = d.lifetimes };
-        mapped = λ d w. record { types = w.types; lifetimes = w.lifetimes };
-        stays = extends_report b.stored (UnreachableLabel j.pointer j.name);
-      };
-      grows = grows_still _ _ refl;
-      in_final = λ d pre. record {
-        is = ap number_found e;
-        nodes = refl;
-        labels = refl;
-        names = refl;
-        stored = ap (λ t. with_target j t b.stored) e;
-      };
-    }
-    go final ps b undeclared e = record {
-      kept = record {
-        scopes = refl;
-        in_root = refl;
-        roots = λ t. refl;
-        paired = λ d. record { exprs = d.exprs; labels = d.labels; pats = d.pats; types = d.types; lifetimes = d.lifetimes };
-        mapped = λ d w. record { types = w.types; lifetimes = w.lifetimes };
-        stays = extends_report b.stored (UndeclaredLabel j.pointer j.name);
-      };
-      grows = grows_still _ _ refl;
-      in_final = λ d pre. record {
-        is = ap number_found e;
-        nodes = refl;
-        labels = refl;
-        names = refl;
-        stored = ap (λ t. with_target j t b.stored) e;
-      };
-    }
+    go final ps b unreachable e = reported final ps b (UnreachableLabel j.pointer j.name) unreachable e refl
+    go final ps b undeclared e = reported final ps b (UndeclaredLabel j.pointer j.name) undeclared e refl

@@ -1,25 +1,24 @@
 -- Steps that store types and lifetimes.
-use Rattle.std.proofs.Common.{◌≡◌, suc, Bool, true, false, if◌then◌else◌, nat_lt, slice_get, List, []}
-use Rattle.std.proofs.Common.{◌∷◌, length, Option, Some, Ok, Err, refl, sym, arith, length-append}
+use Rattle.std.proofs.Common.{◌≡◌, suc, slice_get, List}
+use Rattle.std.proofs.Common.{length, Option, Some, refl, arith}
 use Rattle.hir_store.specs.Pointers.{Pointer}
-use Rattle.hir_store.specs.Arenas.{Sourced, with_entry}
+use Rattle.hir_store.specs.Arenas.{with_entry}
 use Rattle.hir_store.specs.Stored.{Stored}
 use Rattle.hir_store.specs.StoreSink as store_sink
 use Rattle.hir_store.specs.StoreSink.{type_id, lifetime_id}
-use Rattle.hir_store.specs.declared.error.StoreError.TheVariants.{Full}
 use Rattle.hir_store.specs.declared.type_ref.TypeRef.{TypeRef}
 use Rattle.hir_store.specs.declared.type_ref.LifetimeRef.{LifetimeRef}
 use Rattle.hir_store.specs.declared.ids.TypeRefId.{TypeRefId}
 use Rattle.hir_store.specs.declared.ids.LifetimeRefId.{LifetimeRefId}
-use Rattle.hir_store.proofs.Arenas.{continues_entry}
 use Rattle.hir_store.proofs.Maps.{maps_back_entry}
 use Rattle.hir_store.proofs.Extending.{extends_refl}
 use Rattle.thm_logic.proofs.Extended.{types_go_on, lifetimes_go_on}
 use Rattle.hir_lower_builder.specs.Builder.{Builder}
-use Rattle.hir_lower_builder.specs.Lowering.{Checked, alloc_type, alloc_lifetime}
+use Rattle.hir_lower_builder.specs.Lowering.{alloc_type, alloc_lifetime}
 use Rattle.thm_logic.proofs.Frames.{Frame}
-use Rattle.thm_logic.proofs.Logic.{Mark, Holds, Correct, in_prefix, one_more}
+use Rattle.thm_logic.proofs.Logic.{Mark, Correct, Answers}
 use Rattle.thm_logic.proofs.Mapping.{leads_entry}
+use Rattle.thm_logic.proofs.Entries.{answers_stored, correct_added, counted_more, entry_at, entry_more, has_room, paired_more, source_at}
 
 -- a type
 
@@ -42,66 +41,41 @@ pub record AllocatedType (t : TypeRef) (source : Option Pointer) (final : Stored
   pub names : m'.names ≡ m.names
   pub stored : m'.stored ≡ with_type t source m.stored
 
-abbrev made_type : Bool → TypeRef → Option Pointer → Sourced TypeRef TypeRefId → Checked TypeRefId × Sourced TypeRef TypeRefId
-made_type room t source a = if room then (Ok (type_id (length a.entries)), with_entry type_id a t source) else (Err Full, a)
-
 pub correct_alloc_type : (t : TypeRef) (source : Option Pointer) → Correct (alloc_type t source) (AllocatedType t source)
 unfolding alloc_type store_sink.alloc_type
-correct_alloc_type t source =
-    record { holds = λ final ps b r. go final ps b (nat_lt (length b.stored.types.entries) b.stored.types.limit) }
+correct_alloc_type t source = correct_added (λ s. s.types) (λ s a. record s { types = a }) has_room (λ a. type_id (length a.entries))
+    (λ a. with_entry type_id a t source) new extends_refl
   where
-    go : (final : Stored) (ps : List Frame) (b : Builder) (room : Bool)
-        → Holds (AllocatedType t source) final ps b (made_type room t source b.stored.types).0
-        (record b { stored = record b.stored { types = (made_type room t source b.stored.types).1 } })
-    go final ps b true =
-        let s = b.stored in
-        let xs = s.types.entries in
-        let ss = s.types.sources in
-        let grown = length-append xs (t ∷ []) in record {
-          kept = record {
-            scopes = refl;
-            in_root = refl;
-            roots = λ t. refl;
-            paired = λ d. record {
-              exprs = d.exprs;
-              labels = d.labels;
-              pats = d.pats;
-              types = one_more xs t ss source d.types;
-              lifetimes = d.lifetimes;
-            };
-            mapped = λ d w. record {
-              types = leads_entry s.types t w.types type_id source;
-              lifetimes = w.lifetimes;
-            };
-            stays = types_go_on s _ (continues_entry type_id s.types t source);
-          };
-          grows = record {
-            nodes = omega arith;
-            labels = omega arith;
-            pats = omega arith;
-            bindings = omega arith;
-            types = omega arith;
-            lifetimes = omega arith;
-            entries = omega arith;
-            names = omega arith;
-          };
-          in_final = λ d pre. record {
-            number = refl;
-            here = in_prefix xs t (length xs) refl pre.types.entries;
-            from = in_prefix ss source (length xs) (sym d.types) pre.types.sources;
-            next = omega arith;
-            entries = omega arith;
-            nodes = refl;
-            labels = refl;
-            pats = refl;
-            bindings = refl;
-            lifetimes = refl;
-            last = refl;
-            names = refl;
-            stored = refl;
-          };
-        }
-    go final ps b false = extends_refl b.stored
+    new : (final : Stored) (ps : List Frame) (b : Builder)
+        → Answers (AllocatedType t source) final ps b (record b { stored = with_type t source b.stored })
+        (type_id (length b.stored.types.entries))
+    new final ps b =
+        let more = entry_more type_id t source b.stored.types in
+        let next = counted_more more in answers_stored b (with_type t source b.stored) refl
+        (λ d. record {
+          exprs = d.exprs;
+          labels = d.labels;
+          pats = d.pats;
+          types = paired_more more d.types;
+          lifetimes = d.lifetimes;
+        })
+        (λ d w. record { types = leads_entry b.stored.types t w.types type_id source; lifetimes = w.lifetimes })
+        (types_go_on b.stored _ more.continues)
+        (λ d pre. record {
+          number = refl;
+          here = entry_at more pre.types;
+          from = source_at more d.types pre.types;
+          next = next;
+          entries = omega (arith, next);
+          nodes = refl;
+          labels = refl;
+          pats = refl;
+          bindings = refl;
+          lifetimes = refl;
+          last = refl;
+          names = refl;
+          stored = refl;
+        })
 
 -- a lifetime
 
@@ -124,64 +98,41 @@ pub record AllocatedLifetime (l : LifetimeRef) (source : Option Pointer) (final 
   pub names : m'.names ≡ m.names
   pub stored : m'.stored ≡ with_lifetime l source m.stored
 
-abbrev made_lifetime : Bool → LifetimeRef → Option Pointer → Sourced LifetimeRef LifetimeRefId
-    → Checked LifetimeRefId × Sourced LifetimeRef LifetimeRefId
-made_lifetime room l source a = if room then (Ok (lifetime_id (length a.entries)), with_entry lifetime_id a l source) else (Err Full, a)
-
 pub correct_alloc_lifetime : (l : LifetimeRef) (source : Option Pointer) → Correct (alloc_lifetime l source) (AllocatedLifetime l source)
 unfolding alloc_lifetime store_sink.alloc_lifetime
-correct_alloc_lifetime l source =
-    record { holds = λ final ps b r. go final ps b (nat_lt (length b.stored.lifetimes.entries) b.stored.lifetimes.limit) }
+correct_alloc_lifetime l source = correct_added (λ s. s.lifetimes) (λ s a. record s { lifetimes = a }) has_room
+    (λ a. lifetime_id (length a.entries)) (λ a. with_entry lifetime_id a l source) new extends_refl
   where
-    go : (final : Stored) (ps : List Frame) (b : Builder) (room : Bool)
-        → Holds (AllocatedLifetime l source) final ps b (made_lifetime room l source b.stored.lifetimes).0
-        (record b { stored = record b.stored { lifetimes = (made_lifetime room l source b.stored.lifetimes).1 } })
-    go final ps b true =
-        let s = b.stored in
-        let xs = s.lifetimes.entries in
-        let ss = s.lifetimes.sources in
-        let grown = length-append xs (l ∷ []) in record {
-          kept = record {
-            scopes = refl;
-            in_root = refl;
-            roots = λ t. refl;
-            paired = λ d. record {
-              exprs = d.exprs;
-              labels = d.labels;
-              pats = d.pats;
-              lifetimes = one_more xs l ss source d.lifetimes;
-              types = d.types;
-            };
-            mapped = λ d w. record {
-              lifetimes = maps_back_entry (λ i. i.0) lifetime_id (λ n. refl) s.lifetimes l d.lifetimes w.lifetimes source;
-              types = w.types;
-            };
-            stays = lifetimes_go_on s _ (continues_entry lifetime_id s.lifetimes l source);
-          };
-          grows = record {
-            nodes = omega arith;
-            labels = omega arith;
-            pats = omega arith;
-            bindings = omega arith;
-            types = omega arith;
-            lifetimes = omega arith;
-            entries = omega arith;
-            names = omega arith;
-          };
-          in_final = λ d pre. record {
-            number = refl;
-            here = in_prefix xs l (length xs) refl pre.lifetimes.entries;
-            from = in_prefix ss source (length xs) (sym d.lifetimes) pre.lifetimes.sources;
-            next = omega arith;
-            entries = refl;
-            nodes = refl;
-            labels = refl;
-            pats = refl;
-            bindings = refl;
-            types = refl;
-            last = refl;
-            names = refl;
-            stored = refl;
-          };
-        }
-    go final ps b false = extends_refl b.stored
+    new : (final : Stored) (ps : List Frame) (b : Builder)
+        → Answers (AllocatedLifetime l source) final ps b (record b { stored = with_lifetime l source b.stored })
+        (lifetime_id (length b.stored.lifetimes.entries))
+    new final ps b =
+        let more = entry_more lifetime_id l source b.stored.lifetimes in
+        answers_stored b (with_lifetime l source b.stored) refl
+        (λ d. record {
+          exprs = d.exprs;
+          labels = d.labels;
+          pats = d.pats;
+          types = d.types;
+          lifetimes = paired_more more d.lifetimes;
+        })
+        (λ d w. record {
+          types = w.types;
+          lifetimes = maps_back_entry (λ i. i.0) lifetime_id (λ n. refl) b.stored.lifetimes l d.lifetimes w.lifetimes source;
+        })
+        (lifetimes_go_on b.stored _ more.continues)
+        (λ d pre. record {
+          number = refl;
+          here = entry_at more pre.lifetimes;
+          from = source_at more d.lifetimes pre.lifetimes;
+          next = counted_more more;
+          entries = refl;
+          nodes = refl;
+          labels = refl;
+          pats = refl;
+          bindings = refl;
+          types = refl;
+          last = refl;
+          names = refl;
+          stored = refl;
+        })

@@ -90,7 +90,7 @@ plain_name a p s n is named plain unargued unparenthesized =
     ∙ ((λ j. asked.of_segment a p (is j) (named j) (arguments_of a (mapped a p s) p) (qualified_of (mapped a p s) p))
     ∙ ((λ j. if plain j then asked.of_root a p n.id else arguments_of a (mapped a p s) p)
     ∙ (λ j. asked.some_each (generics j) p
-        ++ asked.parens_asked a p.left (entered_calls a p.left) (parens j) (asked.some_some (mapped a p s).ret p) p)))
+    ++ asked.parens_asked a p.left (entered_calls a p.left) (parens j) (asked.some_some (mapped a p s).ret p) p)))
 
 pub dollar_crate : form.DollarCrateAsks
 dollar_crate a p s n is named it =

@@ -10,8 +10,9 @@ use Rattle.spec_scopes.specs.Placed.{Spot, at_root}
 use Rattle.spec_scoping.specs.Scoping.{IsAmong, Standing, Stands, Where, as_part, in_turn, inside, part, parts}
 use Rattle.thm_body_result.specs.Corresponds.{Corresponds, CorrespondsPart, Open}
 use Rattle.thm_body_result.specs.Leads.{Mapping}
-use Rattle.thm_scoping.specs.Agree.{Orderly, ScopesAgree, SeesSame}
+use Rattle.thm_scoping.specs.Agree.{ScopesAgree, SeesSame}
 use Rattle.thm_scoping.specs.Meant.{SameAt}
+use Rattle.thm_scoping.proofs.Orderly.{Orderly, orderly}
 use Rattle.thm_scoping.proofs.Fors.{for_see, try_see}
 use Rattle.thm_scoping.proofs.Forms.{block_at, closure_see, const_see, coroutine_see, if_see, loop_see, match_see, question_see, repeat_see}
 use Rattle.thm_scoping.proofs.Forms.{while_see}
@@ -111,5 +112,5 @@ module _ (store : Store) (source_map : SourceMap) (self : Option BindingId) (o :
       (record { spot = found.spot; sees = found.sees; same = found.same })) among
 
 pub scopes_agree : ScopesAgree
-scopes_agree store source_map self o around e root ms h start outside same c w stands =
-    all_see store source_map self o root start e outside around ms h same c w stands
+scopes_agree store source_map self range whole nothing around e root ms h start outside same c w stands =
+    all_see store source_map self (orderly store range whole nothing) root start e outside around ms h same c w stands

@@ -25,7 +25,8 @@ use Rattle.spec_scoping.specs.Scoping.{lets_of_places, lets_of_rest, lets_of_tar
 use Rattle.spec_scoping.specs.Scoping.{places, places_of_each, places_of_fields, rest_of}
 use Rattle.thm_body_result.specs.Corresponds.{Corresponds, CorrespondsPart, CorrespondsPresent, Open}
 use Rattle.thm_body_result.specs.Leads.{Mapping}
-use Rattle.thm_scoping.specs.Agree.{EachBelow, Orderly}
+use Rattle.thm_scoping.proofs.Named.{EachBelow}
+use Rattle.thm_scoping.proofs.Orderly.{Orderly}
 use Rattle.thm_scoping.proofs.Afters.{after_is, option_is, part_is}
 use Rattle.thm_scoping.proofs.Operands.{BehindSame, EachBehind, Lined, Plain, Same, behind_if, each-behind-append, each_behind}
 use Rattle.thm_scoping.proofs.Operands.{lets_in_both, lets_in_elements, lets_in_fields, lets_in_part, lets_in_rest, part_lined}

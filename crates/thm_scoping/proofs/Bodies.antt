@@ -9,7 +9,7 @@ use Rattle.hir_store.specs.declared.ids.PatId.{PatId}
 use Rattle.hir_lower_scope.specs.ScopeRibs.{Rib, label_rib}
 use Rattle.hir_env.specs.ResolvedTree as tree
 use Rattle.hir_env.specs.ResolvedTree.{Expr, OptionExpr, OptionPat, SelfFormal}
-use Rattle.hir_walks.specs.Pats.{AllBelow, bindings_in}
+use Rattle.hir_walks.specs.Pats.{bindings_in}
 use Rattle.spec_data.specs.Tops.{Tops}
 use Rattle.spec_scopes.specs.Placed.{outermost}
 use Rattle.spec_scopes.specs.Scopes.{binding_rib, binding_ribs}
@@ -18,14 +18,16 @@ use Rattle.spec_scoping.specs.Scoping.{Where, outside, self_names}
 use Rattle.thm_body_result.specs.Corresponds.{Open}
 use Rattle.thm_body_result.specs.Leads.{Mapping}
 use Rattle.thm_body_result.specs.OneResult.{CorrespondsSelf, CorrespondsTops}
-use Rattle.thm_scoping.specs.Agree.{BodiesAgree, Orderly}
+use Rattle.thm_scoping.specs.Agree.{BodiesAgree}
 use Rattle.thm_scoping.specs.Meant.{SameAt, SameRibs}
+use Rattle.thm_scoping.proofs.Orderly.{AllKnown, Orderly, all_known, orderly}
+use Rattle.thm_scoping.proofs.Once.{given_there, given_whole, named_whole}
 use Rattle.thm_scoping.proofs.Agreement.{scopes_agree}
 use Rattle.thm_scoping.proofs.Keeping.{same_name_rib}
 use Rattle.thm_scoping.proofs.Tops.{ribs-append, same_top}
 
 module _ (store : Store) (source_map : SourceMap) (self : Option BindingId) (o : Orderly store) where
-  same_tops : (rs : Open) (ps : Tops) (is : List PatId) (ms : List Mapping) → AllBelow (length store.pats) is
+  same_tops : (rs : Open) (ps : Tops) (is : List PatId) (ms : List Mapping) → AllKnown store is
       → CorrespondsTops store source_map rs ps is ms
       → (below : List (Rib BindingId)) (ns : InScope) → SameRibs store source_map self below ns
       → SameRibs store source_map self (binding_ribs store (flat_map (bindings_in store) is) ++ below) (with_tops ps ns)
@@ -33,7 +35,7 @@ module _ (store : Store) (source_map : SourceMap) (self : Option BindingId) (o :
       (λ l. SameRibs store source_map self (binding_ribs store (flat_map (bindings_in store) l) ++ below) ns) (sym h.0) same
   same_tops rs (p ∷ ps) is ms there h below ns same =
       let q = h.0 in
-      let lower = subst (λ l. AllBelow (length store.pats) l) h.2 there in
+      let lower = subst (λ l. AllKnown store l) h.2 there in
       let outer : List (Rib BindingId) = binding_ribs store (flat_map (bindings_in store) h.1) ++ below in
       let whole = ap (λ l. binding_ribs store (flat_map (bindings_in store) l) ++ below) h.2
       ∙ (ap (λ l. l ++ below) (ribs-append store source_map self o (bindings_in store q) (flat_map (bindings_in store) h.1))
@@ -57,7 +59,7 @@ module _ (store : Store) (source_map : SourceMap) (self : Option BindingId) (o :
       subst (λ l. SameRibs store source_map self (l ++ below) (label_rib u.name u.hygiene self_name ∷ ns)) (sym rib)
       (same_name_rib store source_map self u.name u.hygiene h.0 self_name below ns h.1 same)
 
-  same_outside : (s : SelfFormal) (rs : Open) (ps : Tops) (is : List PatId) (ms ns : List Mapping) → AllBelow (length store.pats) is
+  same_outside : (s : SelfFormal) (rs : Open) (ps : Tops) (is : List PatId) (ms ns : List Mapping) → AllKnown store is
       → CorrespondsSelf store s self ms → CorrespondsTops store source_map rs ps is ns
       → SameAt store source_map self (outermost store self is) (outside s ps)
   same_outside s rs ps is ms ns there h k = record { names = all; items = all }
@@ -76,8 +78,10 @@ module _ (store : Store) (source_map : SourceMap) (self : Option BindingId) (o :
           (same_self s ms h (binding_ribs store (flat_map (bindings_in store) is) ++ []) (with_tops ps []) inner)
 
 pub bodies_agree : BodiesAgree
-bodies_agree store source_map owed skipped f e given o r there c w stands =
+bodies_agree store source_map owed skipped f e given range once nothing r c w stands =
     let body = r.corresponds.1 in
-    scopes_agree store source_map given.0.0 o [] e r.root body.right body.second _ _
-    (same_outside store source_map given.0.0 o f.receiver [] _ given.0.1 body.first.left body.first.right there body.first.first
-    body.first.second) c w stands
+    let whole = named_whole store range given.0.1 once in
+    let known = all_known store given.0.1 (given_there store range given.0.1 once) (given_whole store range given.0.1 once) in
+    scopes_agree store source_map given.0.0 range whole nothing [] e r.root body.right body.second _ _
+    (same_outside store source_map given.0.0 (orderly store range whole nothing) f.receiver [] _ given.0.1 body.first.left body.first.right
+    known body.first.first body.first.second) c w stands

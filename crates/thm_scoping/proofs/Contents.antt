@@ -17,7 +17,6 @@ use Rattle.hir_lower_scope.specs.ScopeRibs.{macro_rib}
 use Rattle.hir_env.specs.ResolvedTree as tree
 use Rattle.hir_env.specs.ResolvedTree.{Expr, OptionBlock, OptionExpr, OptionPat, Stmts}
 use Rattle.hir_walks.specs.Exprs.{statement_pats}
-use Rattle.hir_walks.specs.Pats.{AllBelow}
 use Rattle.spec_scopes.specs.Placed.{Among, Placed, Sees, Spot, after_each, after_option, after_part, in_scope, past, past_macro_def}
 use Rattle.spec_scopes.specs.Placed.{past_option, past_statement, placed_block, placed_each, placed_option, placed_statement}
 use Rattle.spec_scopes.specs.Scopes.{Scopes, pat_scope, ribs_of}
@@ -31,12 +30,12 @@ use Rattle.thm_body_result.specs.Corresponds.{CorrespondsContents, CorrespondsKe
 use Rattle.thm_body_result.specs.Corresponds.{WithNames}
 use Rattle.thm_body_result.specs.Corresponds.{Corresponds, CorrespondsPresentBlock, Open, statement_of}
 use Rattle.thm_body_result.specs.Leads.{Mapping, Mappings}
-use Rattle.thm_scoping.specs.Agree.{EachBelow, Orderly}
 use Rattle.thm_scoping.specs.Meant.{SameAt}
+use Rattle.thm_scoping.proofs.Named.{EachBelow}
+use Rattle.thm_scoping.proofs.Orderly.{AllKnown, Orderly}
 use Rattle.thm_scoping.proofs.Keeping.{same_macro}
 use Rattle.thm_scoping.proofs.Operands.{Lined, Same, each_below_left, each_below_right, ended, kept_lined, lets_in_both, lets_in_enabled}
 use Rattle.thm_scoping.proofs.Operands.{lets_in_part, lined-append, present_lined, stood}
-use Rattle.thm_scoping.proofs.Patterns.{below_left, below_right}
 use Rattle.thm_scoping.proofs.Steps.{AllSee, Inside, all-append, among_both, among_left, among_right, line_same, line_see, placed_option_is}
 use Rattle.thm_scoping.proofs.Tops.{same_top}
 
@@ -142,7 +141,7 @@ module _ (store : Store) (source_map : SourceMap) (self : Option BindingId) (o :
     Below p is t = EachBelow p.0 (flat_map statement_children is ++ option_to_list t)
 
     abbrev There : List Statement → Type 0
-    There is = AllBelow (length store.pats) (flat_map statement_pats is)
+    There is = AllKnown store (flat_map statement_pats is)
 
     -- an expression statement, which may be left out
     expr_see : (p : ExprId) (f e : OptionExpr) (ss : Stmts) (rs : Open) (semi : Bool) (u : Option ExprId) (others : List Statement)
@@ -282,7 +281,7 @@ module _ (store : Store) (source_map : SourceMap) (self : Option BindingId) (o :
             (subst (λ l. CorrespondsContents store source_map rs ss
             (λ around u. CorrespondsKept store source_map around e u) kept l ms) none h) in
             let lower = subst (λ l. EachBelow p.0 l) (sym (last_children r.0 c)) (subst (λ l. Below p r.0 l) tail below) in
-            let known = subst (λ l. AllBelow (length store.pats) l) (sym (last_pats r.0 c)) there in
+            let known = subst (λ l. AllKnown store l) (sym (last_pats r.0 c)) there in
             let within = subst (λ l. Inside store source_map self o root start p l) (sym (last_placed (after_part store p) r.0 c x))
             (subst (λ l. Within p r.0 l x) tail ins) in
             contents_see ss e p rs (r.0 ++ statement.Expr c false ∷ []) None ms x w moved lower known within same

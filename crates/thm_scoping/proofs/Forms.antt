@@ -24,7 +24,7 @@ use Rattle.hir_env.specs.Conditions.{holds_let}
 use Rattle.hir_env.specs.ResolvedTree as tree
 use Rattle.hir_env.specs.ResolvedTree.{Arms, Block, Constant, Expr, ForItems, Guard, OptionBlock, OptionExpr, OptionPat, Stmts}
 use Rattle.hir_walks.specs.Exprs.{arm_pat}
-use Rattle.hir_walks.specs.Pats.{AllBelow, bindings_in}
+use Rattle.hir_walks.specs.Pats.{bindings_in}
 use Rattle.spec_data.specs.Tops.{params_tops}
 use Rattle.spec_scopes.specs.Placed.{Among, Placed, Sees, Spot, after, after_each, after_part, block_items, in_constant, in_scope, inside}
 use Rattle.spec_scopes.specs.Placed.{past}
@@ -43,8 +43,9 @@ use Rattle.thm_body_result.specs.CorrespondsMade.{CorrespondsCondition, Correspo
 use Rattle.thm_body_result.specs.CorrespondsMade.{CorrespondsTry, CorrespondsWhile, CorrespondsWrapped}
 use Rattle.thm_body_result.specs.Forms.{generated_name}
 use Rattle.thm_body_result.specs.Leads.{Mapping, Mappings}
-use Rattle.thm_scoping.specs.Agree.{EachBelow, Orderly}
 use Rattle.thm_scoping.specs.Meant.{SameAt}
+use Rattle.thm_scoping.proofs.Named.{EachBelow}
+use Rattle.thm_scoping.proofs.Orderly.{AllKnown, Orderly}
 use Rattle.thm_scoping.proofs.Afters.{part_is, part_passed}
 use Rattle.thm_scoping.proofs.Contents.{block_end, block_see, block_split}
 use Rattle.thm_scoping.proofs.Operands.{Lined, Same, block_lined, each_below_left, each_below_right, ended, item_after, lets_in_part}
@@ -236,7 +237,7 @@ module _ (store : Store) (source_map : SourceMap) (self : Option BindingId) (o :
 
   arms_see : (arms : Arms) (rs : Open) (p : ExprId) (is : List MatchArm) (ms : List Mapping) (y : Spot) (v : Where)
       → CorrespondsArms store source_map rs arms is ms
-      → EachBelow p.0 (flat_map arm_children is) → AllBelow (length store.pats) (map arm_pat is)
+      → EachBelow p.0 (flat_map arm_children is) → AllKnown store (map arm_pat is)
       → Inside store source_map self o root start p (flat_map (placed_arm store (after_part store p) y) is)
       → SameAt store source_map self y v → All (of_arms arms v)
   arms_see tree.no_arms rs p is ms y v h below there ins same = tt
@@ -245,7 +246,7 @@ module _ (store : Store) (source_map : SourceMap) (self : Option BindingId) (o :
   arms_see (tree.more_arms (tree.arm top e g) arms) rs p is ms y v h below there ins same =
       let arm : MatchArm = record { pat = h.0; guard = h.2; expr = h.1 } in
       let lower = subst (λ l. EachBelow p.0 (flat_map arm_children l)) h.4 below in
-      let known = subst (λ l. AllBelow (length store.pats) (map arm_pat l)) h.4 there in
+      let known = subst (λ l. AllKnown store (map arm_pat l)) h.4 there in
       let within = subst (λ l. Inside store source_map self o root start p
       (flat_map (placed_arm store (after_part store p) y) l)) h.4 ins in
       let own = h.5.first in

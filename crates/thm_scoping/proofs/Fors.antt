@@ -33,8 +33,9 @@ use Rattle.thm_body_result.specs.Corresponds.{WithNames}
 use Rattle.thm_body_result.specs.CorrespondsMade.{CorrespondsNext, CorrespondsToIteration, CorrespondsToLoop, CorrespondsTry}
 use Rattle.thm_body_result.specs.CorrespondsMade.{CorrespondsWrapped}
 use Rattle.thm_body_result.specs.Leads.{Mapping}
-use Rattle.thm_scoping.specs.Agree.{EachBelow, Orderly}
 use Rattle.thm_scoping.specs.Meant.{SameAt, SameRibs}
+use Rattle.thm_scoping.proofs.Named.{EachBelow}
+use Rattle.thm_scoping.proofs.Orderly.{Orderly}
 use Rattle.thm_scoping.proofs.Afters.{part_is, part_passed}
 use Rattle.thm_scoping.proofs.Contents.{block_end, block_see, block_split}
 use Rattle.thm_scoping.proofs.Forms.{go_in}

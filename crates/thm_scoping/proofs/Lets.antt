@@ -12,7 +12,7 @@ use Rattle.spec_scopes.specs.Placed.{Spot}
 use Rattle.spec_scoping.specs.Scoping.{Where, in_turn, part}
 use Rattle.thm_body_result.specs.Corresponds.{Corresponds, Open}
 use Rattle.thm_body_result.specs.Leads.{Mapping}
-use Rattle.thm_scoping.specs.Agree.{Orderly}
+use Rattle.thm_scoping.proofs.Orderly.{Orderly}
 use Rattle.thm_scoping.proofs.Operands.{part_lined}
 use Rattle.thm_scoping.proofs.Steps.{AllSee, At, line_see, step}
 

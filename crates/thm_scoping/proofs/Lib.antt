@@ -1,3 +1,6 @@
+pub mod Named
+pub mod Orderly
+pub mod Once
 pub mod Keeping
 pub mod Patterns
 pub mod Afters

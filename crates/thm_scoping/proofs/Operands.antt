@@ -26,8 +26,9 @@ use Rattle.thm_body_result.specs.Corresponds.{Corresponds, CorrespondsBlockPart,
 use Rattle.thm_body_result.specs.Corresponds.{CorrespondsKept, CorrespondsOthers, CorrespondsPart, CorrespondsPresent, Open, ThereIf}
 use Rattle.thm_body_result.specs.Forms.{item_or_missing}
 use Rattle.thm_body_result.specs.Leads.{Mapping, Mappings}
-use Rattle.thm_scoping.specs.Agree.{BindNothing, EachBelow, Orderly}
+use Rattle.thm_scoping.specs.Agree.{BindNothing}
 use Rattle.thm_scoping.specs.Meant.{SameNames}
+use Rattle.thm_scoping.proofs.Named.{EachBelow}
 use Rattle.thm_scoping.proofs.Afters.{after_is, part_is, part_passed}
 
 pub each_below_left : (n : ℕ) (is js : List ExprId) → EachBelow n (is ++ js) → EachBelow n is

@@ -35,7 +35,8 @@ use Rattle.thm_body_result.specs.Corresponds.{Open}
 use Rattle.thm_body_result.specs.CorrespondsMade.{CorrespondsItemCall}
 use Rattle.thm_body_result.specs.Forms.{binary_form, lazy_form, leaf_form, leaving_form, range_fields, unary_form}
 use Rattle.thm_body_result.specs.Leads.{Mapping, Mappings, ◌&◌}
-use Rattle.thm_scoping.specs.Agree.{EachBelow, Orderly}
+use Rattle.thm_scoping.proofs.Named.{EachBelow}
+use Rattle.thm_scoping.proofs.Orderly.{Orderly}
 use Rattle.thm_scoping.proofs.Operands.{Lined, Plain, block_lined, each_below_left, each_below_right, each_lined, ended, fields_lined}
 use Rattle.thm_scoping.proofs.Operands.{item_after, lined-append, lined_constants, others_lined, part_lined, passed, present_lined}
 

@@ -27,7 +27,7 @@ use Rattle.hir_env.specs.Answers.{Contexts}
 use Rattle.hir_env.specs.ResolvedTree as tree
 use Rattle.hir_env.specs.ResolvedTree.{OptionExpr, OptionPat, Params}
 use Rattle.hir_walks.specs.Exprs.{statement_pats}
-use Rattle.hir_walks.specs.Pats.{AllBelow, bindings_in}
+use Rattle.hir_walks.specs.Pats.{bindings_in}
 use Rattle.spec_data.specs.Data as datum
 use Rattle.spec_data.specs.Data.{OptionPatData, PatData, PatShape, pat_at}
 use Rattle.spec_data.specs.Patterns.{first_uses, written_pat}
@@ -45,14 +45,14 @@ use Rattle.thm_body_result.specs.CorrespondsPreludes.{CorrespondsTwoLets}
 use Rattle.thm_body_result.specs.CorrespondsPreludes.{IsHandedBy, Named, let_from, the_name}
 use Rattle.thm_body_result.specs.Forms.{path_of_name}
 use Rattle.thm_body_result.specs.Leads.{Mapping}
-use Rattle.thm_scoping.specs.Agree.{Orderly}
 use Rattle.thm_scoping.specs.Meant.{SameAt, SameNames}
+use Rattle.thm_scoping.proofs.Orderly.{AllKnown, Known, Orderly, known_left, known_right}
 use Rattle.thm_scoping.proofs.Afters.{part_passed}
 use Rattle.thm_scoping.proofs.Contents.{block_end, block_split}
 use Rattle.thm_scoping.proofs.Hits.{BindsFirst, MeansAt, binds_as, first_at, pairs_at, part_binds, passed_at}
 use Rattle.thm_scoping.proofs.Keeping.{Pairs}
 use Rattle.thm_scoping.proofs.Operands.{each_below_right, silent_after}
-use Rattle.thm_scoping.proofs.Patterns.{below_left, below_right, shape_of}
+use Rattle.thm_scoping.proofs.Patterns.{shape_of}
 use Rattle.thm_scoping.proofs.Steps.{AllSee, At, among_right, part_see}
 use Rattle.thm_scoping.proofs.Tops.{one_step, ribs-append, top_pairs}
 
@@ -86,7 +86,7 @@ no_generated (name.Generated i) s k h w = absurd w
 
 module _ (store : Store) (source_map : SourceMap) (self : Option BindingId) (o : Orderly store) where
   -- a binding alone
-  bind_ribs : (mode : BindingAnnotation) (x : Named) (from : Option Pointer) (q : PatId) (ms : List Mapping) → q.0 < length store.pats
+  bind_ribs : (mode : BindingAnnotation) (x : Named) (from : Option Pointer) (q : PatId) (ms : List Mapping) → Known store q
       → CorrespondsBind store source_map mode x from q ms
       → (b : BindingId) × (binding_ribs store (bindings_in store q) ≡ label_rib x.name x.hygiene b ∷ [])
   bind_ribs mode x from q ms there h =
@@ -125,11 +125,11 @@ module _ (store : Store) (source_map : SourceMap) (self : Option BindingId) (o :
   }
 
   two_lets : (x : Named) (from : Option Pointer) (q : PatId) (own : List Statement) (ms : List Mapping) (g : ExprId) (y : Spot)
-      → AllBelow (length store.pats) (flat_map statement_pats own) → CorrespondsTwoLets store source_map x from q own ms
+      → AllKnown store (flat_map statement_pats own) → CorrespondsTwoLets store source_map x from q own ms
       → Behind q x (ribs_of store (block_end store source_map self o (after_part store g) own y).names) (ribs_of store y.names)
   unfolding block_end
   two_lets x from q own ms g y there h =
-      let lower = subst (λ l. AllBelow (length store.pats) (flat_map statement_pats l)) h.3 there in
+      let lower = subst (λ l. AllKnown store (flat_map statement_pats l)) h.3 there in
       let rib = bind_ribs Mutable x from h.0 h.4.left lower.0 h.4.first in
       let inner : Scopes = pat_scope store h.0 ∷ after_part store g h.1 y.names in
       record {
@@ -143,20 +143,20 @@ module _ (store : Store) (source_map : SourceMap) (self : Option BindingId) (o :
       }
 
   lets_behind : (hd : HandedIn) (x : Named) (from : Option Pointer) (q : PatId) (own : List Statement) (ms : List Mapping) (g : ExprId)
-      (y : Spot) → AllBelow (length store.pats) (flat_map statement_pats own) → CorrespondsLetAs store source_map hd x from q own ms
+      (y : Spot) → AllKnown store (flat_map statement_pats own) → CorrespondsLetAs store source_map hd x from q own ms
       → Behind q x (ribs_of store (block_end store source_map self o (after_part store g) own y).names) (ribs_of store y.names)
   lets_behind (by_name n h) x from q own ms g y there c = one_let x q own ms g y c
   lets_behind (by_its_name n h) x from q own ms g y there c = two_lets x from q own ms g y there c
   lets_behind by_generated_name x from q own ms g y there c = two_lets x from q own ms g y there c
 
   let_there : (hd : HandedIn) (x : Named) (from : Option Pointer) (q : PatId) (own : List Statement) (ms : List Mapping)
-      → AllBelow (length store.pats) (flat_map statement_pats own) → CorrespondsLetAs store source_map hd x from q own ms
-      → q.0 < length store.pats
-  let_there (by_name n h) x from q own ms there c = (subst (λ l. AllBelow (length store.pats) (flat_map statement_pats l)) c.1 there).0
+      → AllKnown store (flat_map statement_pats own) → CorrespondsLetAs store source_map hd x from q own ms
+      → Known store q
+  let_there (by_name n h) x from q own ms there c = (subst (λ l. AllKnown store (flat_map statement_pats l)) c.1 there).0
   let_there (by_its_name n h) x from q own ms there c =
-      (subst (λ l. AllBelow (length store.pats) (flat_map statement_pats l)) c.3 there).1.0
+      (subst (λ l. AllKnown store (flat_map statement_pats l)) c.3 there).1.0
   let_there by_generated_name x from q own ms there c =
-      (subst (λ l. AllBelow (length store.pats) (flat_map statement_pats l)) c.3 there).1.0
+      (subst (λ l. AllKnown store (flat_map statement_pats l)) c.3 there).1.0
 
   module _ (contexts : Contexts) (n : Name) (s : Sought) (written : IsWritten n) where
     abbrev Here : List (Rib BindingId) → InScope → Type 0
@@ -171,7 +171,7 @@ module _ (store : Store) (source_map : SourceMap) (self : Option BindingId) (o :
     So xs rs ns = Here rs ns ⊎ Pending xs
 
     handed_so : (xs : List Named) (ys : List PatData) (is : List PatId) (ms : List Mapping) (rs : List (Rib BindingId)) (ns : InScope)
-        → CorrespondsHanded store source_map xs ys is ms → AllBelow (length store.pats) is → Here rs ns
+        → CorrespondsHanded store source_map xs ys is ms → AllKnown store is → Here rs ns
         → So xs (binding_ribs store (flat_map (bindings_in store) is) ++ rs) ns
     unfolding Pending
     handed_so [] [] is ms rs ns h there same =
@@ -180,7 +180,7 @@ module _ (store : Store) (source_map : SourceMap) (self : Option BindingId) (o :
     handed_so (x ∷ xs) [] is ms rs ns h there same = absurd h
     handed_so (x ∷ xs) (y ∷ ys) is ms rs ns h there same =
         let q = h.0 in
-        let lower = subst (λ l. AllBelow (length store.pats) l) h.2 there in
+        let lower = subst (λ l. AllKnown store l) h.2 there in
         let rib = bind_ribs Mutable x (source_of y) q h.3.left lower.0 h.3.first in
         let outer = binding_ribs store (flat_map (bindings_in store) h.1) ++ rs in
         let whole = ap (λ l. binding_ribs store (flat_map (bindings_in store) l) ++ rs) h.2
@@ -198,7 +198,7 @@ module _ (store : Store) (source_map : SourceMap) (self : Option BindingId) (o :
 
     -- the pattern that was handed in by the name binds it
     found_in : (p : OptionPat) (q : PatId) (rs : Open) (ms : List Mapping) (x : Named) (hd : HandedIn) (below : List (Rib BindingId))
-        (ns : InScope) → q.0 < length store.pats
+        (ns : InScope) → Known store q
         → WithNames store source_map p (λ ks. CorrespondsPatPart store source_map ks rs p [] q) q ms
         → binds_named hd (written_pat p) → IsHandedBy hd x → is_for n s x.name x.hygiene ≡ true
         → Here (binding_ribs store (bindings_in store q) ++ below) (with_top p ns)
@@ -216,7 +216,7 @@ module _ (store : Store) (source_map : SourceMap) (self : Option BindingId) (o :
     -- behind the `let` of one parameter
     bound_so : (p : OptionPat) (q : PatId) (rs : Open) (ms : List Mapping) (x : Named) (xs : List Named)
         (between below : List (Rib BindingId))
-        (ns : InScope) → q.0 < length store.pats
+        (ns : InScope) → Known store q
         → WithNames store source_map p (λ ks. CorrespondsPatPart store source_map ks rs p [] q) q ms
         → IsHandedBy (handed_in (written_pat p)) x
         → (is_for n s x.name x.hygiene ≡ false → Here below ns → Here (between ++ below) ns)
@@ -243,7 +243,7 @@ module _ (store : Store) (source_map : SourceMap) (self : Option BindingId) (o :
     none_so (x ∷ xs) lets ms g y ns h so = absurd h
 
     one_so : (p : OptionPat) (q : PatId) (rs : Open) (ms : List Mapping) (x : Named) (xs : List Named) (names below : List (Rib BindingId))
-        (ns : InScope) → q.0 < length store.pats
+        (ns : InScope) → Known store q
         → WithNames store source_map p (λ ks. CorrespondsPatPart store source_map ks rs p [] q) q ms
         → IsHandedBy (handed_in (written_pat p)) x → Behind q x names below → So (x ∷ xs) below ns → So xs names (with_top p ns)
     one_so p q rs ms x xs names below ns there h handed b so = subst (λ l. So xs l (with_top p ns)) (sym b.are)
@@ -258,7 +258,7 @@ module _ (store : Store) (source_map : SourceMap) (self : Option BindingId) (o :
 
     lets_so : (params : Params) (l : StoredParams) (rs : Open) (ms : List Mapping) (xs : List Named) (lets : List Statement)
         (ks : List Mapping) (g : ExprId) (y : Spot) (ns : InScope)
-        → AllBelow (length store.pats) (flat_map statement_pats lets)
+        → AllKnown store (flat_map statement_pats lets)
         → CorrespondsParams store source_map rs params l ms
         → CorrespondsLets store source_map xs (map written_pat (params_tops params)) l.0 lets ks
         → So xs (ribs_of store y.names) ns
@@ -274,19 +274,19 @@ module _ (store : Store) (source_map : SourceMap) (self : Option BindingId) (o :
     lets_so (tree.more_params (tree.param p t) params) l rs ms (x ∷ xs) lets ks g y ns known h c so =
         let d = subst (λ (k : StoredParams). CorrespondsLets store source_map (x ∷ xs)
         (map written_pat (params_tops (tree.more_params (tree.param p t) params))) k.0 lets ks) h.3 c in
-        let split = subst (λ is. AllBelow (length store.pats) is) (flat_map-append statement_pats d.0 d.1)
-        (subst (λ ss. AllBelow (length store.pats) (flat_map statement_pats ss)) d.2 known) in
+        let split = subst (λ is. AllKnown store is) (flat_map-append statement_pats d.0 d.1)
+        (subst (λ ss. AllKnown store (flat_map statement_pats ss)) d.2 known) in
         let own = flat_map statement_pats d.0 in
         let more = flat_map statement_pats d.1 in
         let z = block_end store source_map self o (after_part store g) d.0 y in
         let b = lets_behind (handed_in (written_pat p)) x (source_of (written_pat p)) h.0 d.0 d.4.left g y
-        (below_left (length store.pats) own more split) d.4.first in
+        (known_left store own more split) d.4.first in
         let within = let_there (handed_in (written_pat p)) x (source_of (written_pat p)) h.0 d.0 d.4.left
-        (below_left (length store.pats) own more split) d.4.first in
+        (known_left store own more split) d.4.first in
         let next = one_so p h.0 rs h.4.first.left x xs (ribs_of store z.names) (ribs_of store y.names) ns within h.4.first.first d.3 b so in
         subst (λ (v : Spot). Here (ribs_of store v.names) (with_each (params_tops params) (with_top p ns)))
         (sym (ap (λ ss. block_end store source_map self o (after_part store g) ss y) d.2 ∙ end-append (after_part store g) d.0 d.1 y))
-        (lets_so params h.2 rs h.4.right xs d.1 d.4.right g z (with_top p ns) (below_right (length store.pats) own more split) h.4.second
+        (lets_so params h.2 rs h.4.right xs d.1 d.4.right g z (with_top p ns) (known_right store own more split) h.4.second
         d.4.second next)
 
   own_items : (hd : HandedIn) (x : Named) (from : Option Pointer) (q : PatId) (own : List Statement) (ms : List Mapping)
@@ -315,7 +315,7 @@ module _ (store : Store) (source_map : SourceMap) (self : Option BindingId) (o :
   -- the body of such a closure, or of such a function, behind the `let`s
   pub body_same : (params : Params) (l : StoredParams) (rs : Open) (ms ks ns : List Mapping) (xs : List Named) (lets : List Statement)
       (formals : List PatId) (g : ExprId) (y : Spot) (w : Where) (outer : Scopes)
-      → AllBelow (length store.pats) formals → AllBelow (length store.pats) (flat_map statement_pats lets)
+      → AllKnown store formals → AllKnown store (flat_map statement_pats lets)
       → CorrespondsParams store source_map rs params l ms
       → CorrespondsLets store source_map xs (map written_pat (params_tops params)) l.0 lets ks
       → CorrespondsHanded store source_map xs (map written_pat (params_tops params)) formals ns

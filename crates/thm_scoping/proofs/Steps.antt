@@ -18,8 +18,9 @@ use Rattle.spec_scoping.specs.Bound.{InScope, with_each}
 use Rattle.spec_scoping.specs.Scoping.{Standing, Where, behind, behind_part, in_turn, lets, lets_of_part, naming, part}
 use Rattle.thm_body_result.specs.Corresponds.{Corresponds, CorrespondsPart, Open}
 use Rattle.thm_body_result.specs.Leads.{Mapping}
-use Rattle.thm_scoping.specs.Agree.{BindNothing, Orderly, SeesSame}
+use Rattle.thm_scoping.specs.Agree.{BindNothing, SeesSame}
 use Rattle.thm_scoping.specs.Meant.{SameAt, SameNames}
+use Rattle.thm_scoping.proofs.Orderly.{Orderly}
 use Rattle.thm_scoping.proofs.Afters.{after_is, part_is, part_passed}
 use Rattle.thm_scoping.proofs.Behind.{behind_same}
 use Rattle.thm_scoping.proofs.Operands.{EachBehind, Lined, Plain, Same, each_behind, ended, passed, stood}

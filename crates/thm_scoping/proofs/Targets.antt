@@ -33,7 +33,9 @@ use Rattle.spec_scoping.specs.Scoping.{part, places, places_of_each, places_of_f
 use Rattle.thm_body_result.specs.Corresponds.{Corresponds, CorrespondsTarget, CorrespondsTargetFields, CorrespondsTargets, CorrespondsTuple}
 use Rattle.thm_body_result.specs.Corresponds.{Open, WherePath}
 use Rattle.thm_body_result.specs.Leads.{Mapping, Mappings, No}
-use Rattle.thm_scoping.specs.Agree.{EachBelow, Orderly, pat_constants}
+use Rattle.thm_scoping.specs.Agree.{pat_constants}
+use Rattle.thm_scoping.proofs.Named.{EachBelow}
+use Rattle.thm_scoping.proofs.Orderly.{Orderly}
 use Rattle.thm_scoping.proofs.Operands.{Lined, Plain, each_below_left, each_below_right, ended, lined-append, lined_constants, part_lined}
 use Rattle.thm_scoping.proofs.Operands.{stood}
 use Rattle.thm_scoping.proofs.Patterns.{back_of, below_left, below_more, below_right, bind_is_not_bare, fielded, first_field, first_of}
@@ -291,9 +293,9 @@ module _ (store : Store) (source_map : SourceMap) (self : Option BindingId) (o :
       let found = h.2.stored in
       let d : ℕ = length store.types + length store.pats in
       let there = (o.patterns_there i (hir.Assignment q x) found).0 in
-      let less : q.0 < d = omega (arith, there) in
+      let less : q.0 < d = omega (arith, there.0) in
       let whole : exprs_in_pat store q ≡ exprs_to d q = ap (λ l. flat_map (exprs_at store) l)
-      (pats_in_whole store o.patterns q there (o.once q there) ∙ same_levels store o.patterns (suc q.0) d q (omega arith) less) in
+      (pats_in_whole store o.patterns q there.0 there.1 ∙ same_levels store o.patterns (suc q.0) d q (omega arith) less) in
       let below = subst (λ l. EachBelow i.0 l) whole (o.targets i q x found) in
       record {
         form = hir.Assignment q x;

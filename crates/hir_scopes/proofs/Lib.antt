@@ -1,0 +1,10 @@
+pub mod Lists
+pub mod AfterLemmas
+pub mod SeenLemmas
+pub mod ChainLemmas
+pub mod RecordLemmas
+pub mod WalkLemmas
+pub mod FormLemmas
+pub mod FoundLemmas
+pub mod ExprLemmas
+pub mod PartLemmas
