@@ -1,4 +1,3 @@
-mod Calls
 mod Read
 mod Sent
 mod SoFar
