@@ -1,23 +1,19 @@
 -- Chains stay where scopes and entries are added, and a scope that is opened stands in front of its parent's.
-use Rattle.std.proofs.Common.{arith, ◌≡◌, ◌∙◌, refl, sym, ap, subst, ◌<◌, ◌≤◌, ◌-◌, ℕ, List, [], ◌∷◌, ◌++◌, Option, Some, None}
-use Rattle.std.proofs.Common.{length, take, drop, slice_get, length-append}
+use Rattle.std.proofs.Common.{arith, ◌≡◌, ◌∙◌, refl, sym, ap, ◌≤◌, ℕ, List, [], ◌∷◌, ◌++◌, Option, Some, None}
+use Rattle.std.proofs.Common.{length, slice_get, length-append}
 use Rattle.std.proofs.lemmas.List.{append_assoc, append-nil}
 use Rattle.std.specs.List.{flat_map}
 use Rattle.hir_store.specs.declared.ids.BindingId.{BindingId}
-use Rattle.hir_store.specs.declared.ids.BlockId.{BlockId}
-use Rattle.hir_store.specs.declared.ids.LabelId.{LabelId}
-use Rattle.hir_store.specs.declared.ids.MacroDefId.{MacroDefId}
 use Rattle.hir_store.specs.declared.ids.PatId.{PatId}
-use Rattle.hir_scopes.specs.declared.scope.ScopeData.{ScopeData}
 use Rattle.hir_scopes.specs.declared.scope.ScopeId.{ScopeId}
 use Rattle.hir_scopes.specs.declared.scope.ScopeKind.{ScopeKind}
 use Rattle.hir_scopes.specs.declared.scope.ScopeKind.TheVariants as kind
 use Rattle.hir_scopes.specs.declared.opening.Around.{Around}
-use Rattle.hir_scopes.specs.Bounds.{IsBefore, IsWithin, ScopeLists}
-use Rattle.hir_scopes.specs.Chains.{Enters, Grown, InRange, IsChain, Opens, Stands, in_block, scope_of}
+use Rattle.hir_scopes.specs.Bounds.{IsWithin, ScopeLists}
+use Rattle.hir_scopes.specs.Chains.{Enters, Grown, InRange, IsChain, Opens, Stands, scope_of}
 use Rattle.hir_walks.specs.Pats.{taken}
-use Rattle.spec_scopes.specs.Placed.{Spot, block_items, in_scope, past_macro_def}
-use Rattle.spec_scopes.specs.Scopes.{NameScope, Scopes, binding_scope, block_scope, macro_def_scope}
+use Rattle.spec_scopes.specs.Placed.{Spot, in_scope}
+use Rattle.spec_scopes.specs.Scopes.{NameScope, Scopes, binding_scope}
 use Rattle.hir_scopes.proofs.Lists.{get_last, get_more, range_end, range_more}
 
 pub within_more : (k : ScopeKind) (m n : ℕ) → m ≤ n → IsWithin k m → IsWithin k n

@@ -1,6 +1,6 @@
 -- An expression with its parts, and a body.
 use Rattle.std.proofs.Common.{arith, ◌≡◌, ◌⊎◌, ◌∙◌, inl, inr, refl, sym, ap, subst, ◌<◌, List, [], ◌∷◌, ◌++◌, Option, Some, None}
-use Rattle.std.proofs.Common.{ℕ, Bool, true, false, length, length-append, slice_get, slice_set}
+use Rattle.std.proofs.Common.{ℕ, Bool, false, length, length-append, slice_get, slice_set}
 use Rattle.std.specs.List.{flat_map}
 use Rattle.std.specs.Option.{option_to_list}
 use Rattle.std.proofs.lemmas.List.{append-nil}
@@ -24,9 +24,9 @@ use Rattle.hir_scopes.specs.Records.{HasScope, Is, Recorded, Records, SeenFrom, 
 use Rattle.hir_walks.specs.Pats.{bindings_in}
 use Rattle.spec_scopes.specs.Placed.{Sees, Spot, after, after_form, after_part, in_scope, outermost, own_scopes, placed, placed_block}
 use Rattle.spec_scopes.specs.Placed.{recorded}
-use Rattle.spec_scopes.specs.Scopes.{Scopes, binding_scope, block_scope}
+use Rattle.spec_scopes.specs.Scopes.{binding_scope, block_scope}
 use Rattle.hir_scopes.proofs.AfterLemmas.{after_is, after_none}
-use Rattle.hir_scopes.proofs.ChainLemmas.{chain_grown, grown_then, stands_grown}
+use Rattle.hir_scopes.proofs.ChainLemmas.{grown_then, stands_grown}
 use Rattle.hir_scopes.proofs.Lists.{range_end}
 use Rattle.hir_scopes.proofs.RecordLemmas.{records_alone, records_before, records_both, records_set, records_whole}
 

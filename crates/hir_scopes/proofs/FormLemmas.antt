@@ -1,5 +1,5 @@
 -- A form that opens no scope.
-use Rattle.std.proofs.Common.{arith, ◌≡◌, ◌∙◌, refl, sym, subst, Bool, true, false, List, ◌∷◌, [], Option}
+use Rattle.std.proofs.Common.{arith, ◌≡◌, ◌∙◌, refl, sym, subst, true, false, List, ◌∷◌, []}
 use Rattle.std.specs.List.{flat_map}
 use Rattle.hir_store.specs.declared.hir.Expr.{Expr}
 use Rattle.hir_store.specs.declared.hir.Expr.TheVariants as hir
@@ -7,7 +7,6 @@ use Rattle.hir_store.specs.declared.hir.Array.TheVariants as array
 use Rattle.hir_store.specs.declared.ids.ExprId.{ExprId}
 use Rattle.hir_store.specs.Stored.{Store}
 use Rattle.hir_store.specs.declared.hir.MatchArm.{MatchArm}
-use Rattle.hir_store.specs.declared.hir.Statement.{Statement}
 use Rattle.hir_store.specs.declared.ids.PatId.{PatId}
 use Rattle.hir_scopes.specs.declared.opening.Around.{Around}
 use Rattle.hir_scopes.specs.Bounds.{ScopeLists}

@@ -1,15 +1,13 @@
 -- What a name means in the chain of a scope, scope by scope.
-use Rattle.std.proofs.Common.{arith, ◌≡◌, ◌∙◌, refl, sym, ap, subst, List, [], ◌∷◌, ◌++◌, Option, Some, None, true, false, if◌then◌else◌}
+use Rattle.std.proofs.Common.{◌≡◌, ◌∙◌, refl, sym, ap, subst, List, [], ◌∷◌, ◌++◌, Option, Some, None, true, false, if◌then◌else◌}
 use Rattle.std.proofs.Common.{slice_get}
 use Rattle.hir_env.specs.Answers.{Contexts}
-use Rattle.hir_lower_scope.specs.ScopeRibs.{Rib, Sought, Target, is_for, macro_rib, number_found, past_macro, reachable, search}
-use Rattle.hir_lower_scope.specs.ScopeRibs.{undeclared}
+use Rattle.hir_lower_scope.specs.ScopeRibs.{Rib, Sought, Target, macro_rib, number_found, reachable, search}
 use Rattle.hir_store.specs.declared.ids.BindingId.{BindingId}
 use Rattle.hir_store.specs.declared.ids.MacroDefId.{MacroDefId}
 use Rattle.hir_store.specs.declared.name.Name.{Name}
 use Rattle.hir_store.specs.declared.pat.Binding.{Binding}
 use Rattle.hir_store.specs.Stored.{Store}
-use Rattle.hir_scopes.specs.declared.scope.ScopeData.{ScopeData}
 use Rattle.hir_scopes.specs.declared.scope.ScopeId.{ScopeId}
 use Rattle.hir_scopes.specs.declared.scope.ScopeKind.{ScopeKind}
 use Rattle.hir_scopes.specs.declared.scope.ScopeKind.TheVariants as kind
@@ -17,7 +15,7 @@ use Rattle.hir_scopes.specs.Bounds.{ScopeLists}
 use Rattle.hir_scopes.specs.Chains.{IsChain, scope_of}
 use Rattle.hir_scopes.specs.Lookup.{is_binding_for, is_entry_for, or_else, past_def}
 use Rattle.hir_scopes.specs.Parts.{entries_in, macro_def_in, parent_in}
-use Rattle.spec_scopes.specs.Scopes.{NameScope, Scopes, binding_rib, binding_ribs, binding_scope, block_scope, loop_scope, macro_def_scope}
+use Rattle.spec_scopes.specs.Scopes.{Scopes, binding_rib, binding_ribs}
 use Rattle.spec_scopes.specs.Scopes.{ribs_of}
 
 module _ (store : Store) (contexts : Contexts) (name : Name) (s : Sought) where

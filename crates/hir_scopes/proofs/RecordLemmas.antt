@@ -1,14 +1,13 @@
 -- What is recorded by two steps, one behind the other.
-use Rattle.std.proofs.Common.{arith, ◌≡◌, ◌⊎◌, ◌∙◌, inl, inr, refl, sym, ap, subst, ◌<◌, ◌≤◌, List, [], ◌∷◌, ◌++◌, Option, Some, None}
+use Rattle.std.proofs.Common.{arith, ◌≡◌, ◌⊎◌, ◌∙◌, inl, inr, sym, ap, subst, ◌<◌, ◌++◌, Some, None}
 use Rattle.std.proofs.Common.{length, slice_get, slice_set}
 use Rattle.hir_store.specs.declared.hir.Expr.{Expr}
 use Rattle.hir_store.specs.declared.ids.ExprId.{ExprId}
 use Rattle.hir_store.specs.Stored.{Store}
 use Rattle.hir_scopes.specs.declared.scope.ScopeId.{ScopeId}
-use Rattle.hir_scopes.specs.declared.opening.Around.{Around}
 use Rattle.hir_scopes.specs.Bounds.{ScopeLists}
-use Rattle.hir_scopes.specs.Chains.{Grown, IsChain, Stands}
-use Rattle.hir_scopes.specs.Records.{HasScope, Is, Records, SeenFrom, it_is}
+use Rattle.hir_scopes.specs.Chains.{Grown, IsChain}
+use Rattle.hir_scopes.specs.Records.{Is, Records, SeenFrom, it_is}
 use Rattle.spec_scopes.specs.Placed.{Among, Placed, Sees, Spot, after_part, at_root, placed, recorded}
 use Rattle.hir_scopes.proofs.Lists.{get_at_set, get_set, length_set, stays_set}
 use Rattle.hir_scopes.proofs.ChainLemmas.{chain_grown}

@@ -1,7 +1,5 @@
 -- Walks over what is placed, one behind the other.
-use Rattle.std.proofs.Common.{arith, ◌≡◌, ◌⊎◌, ◌∙◌, inl, inr, refl, sym, ap, subst, ◌<◌, ◌≤◌, List, [], ◌∷◌, ◌++◌, Option, Some, None}
-use Rattle.std.proofs.Common.{slice_get, slice_set}
-use Rattle.hir_store.specs.declared.hir.Expr.{Expr}
+use Rattle.std.proofs.Common.{arith, ◌≡◌, inl, inr, refl, sym, ap, subst, ◌<◌, ◌≤◌, List, [], ◌∷◌, ◌++◌, Option}
 use Rattle.hir_store.specs.declared.ids.ExprId.{ExprId}
 use Rattle.hir_store.specs.declared.hir.MatchArm.{MatchArm}
 use Rattle.hir_store.specs.declared.hir.Statement.{Statement}
@@ -9,11 +7,10 @@ use Rattle.hir_store.specs.Stored.{Store}
 use Rattle.std.specs.List.{flat_map}
 use Rattle.hir_scopes.specs.declared.opening.Around.{Around}
 use Rattle.hir_scopes.specs.Bounds.{ScopeLists}
-use Rattle.hir_scopes.specs.Chains.{Enters, Grown, InRange, IsChain, Stands}
+use Rattle.hir_scopes.specs.Chains.{Enters, Grown, InRange, Stands}
 use Rattle.hir_scopes.specs.Records.{Kept, Recorded, Records, SeenFrom, Walked, Walks}
 use Rattle.spec_scopes.specs.Placed.{Placed, Sees, Spot, after, after_each, after_part, in_constant, in_scope, past, past_statement}
 use Rattle.spec_scopes.specs.Placed.{placed_arm, placed_block, placed_each, placed_option, placed_statement}
-use Rattle.spec_scopes.specs.Scopes.{Scopes}
 use Rattle.hir_scopes.proofs.AfterLemmas.{after_part_below, after_part_past}
 use Rattle.hir_scopes.proofs.ChainLemmas.{grown_same, grown_then, in_range_grown, stands_grown}
 use Rattle.hir_scopes.proofs.RecordLemmas.{records_append, records_as, records_behind, records_before, records_none}

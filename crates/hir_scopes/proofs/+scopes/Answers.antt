@@ -9,8 +9,8 @@ use Rattle.hir_scopes.proofs.ExprLemmas.{block_behind, block_recorded, block_who
 use Rattle.hir_scopes.proofs.ExprLemmas.{none_behind, none_recorded}
 use Rattle.hir_scopes.proofs.FormLemmas.{closure_as, match_as, plain_walked}
 use Rattle.hir_scopes.proofs.Lists.{first_and_rest, no_first}
-use Rattle.hir_scopes.proofs.WalkLemmas.{arms_end, arms_next, block_end, block_next, each_end, each_next, kept_back, kept_then}
-use Rattle.hir_scopes.proofs.WalkLemmas.{recorded_constant, recorded_enter, recorded_of, recorded_then, walked_back, walked_beside}
+use Rattle.hir_scopes.proofs.WalkLemmas.{arms_end, arms_next, block_next, each_end, each_next, kept_back, kept_then}
+use Rattle.hir_scopes.proofs.WalkLemmas.{recorded_constant, recorded_enter, recorded_of, walked_back, walked_beside}
 use Rattle.hir_scopes.proofs.WalkLemmas.{walked_enter, walked_inner, walked_last, walked_then, walks_none}
 use Rattle.hir_scopes.specs.Records.{Recorded, Walked}
 use Rattle.hir_scopes.specs.declared.opening.Around.{Around}

@@ -1,9 +1,9 @@
 -- What is left at the head of a loop adds what it places to what was placed before it.
-use Rattle.std.proofs.Common.{◌≡◌, ◌+◌, ◌*◌, length}
+use Rattle.std.proofs.Common.{◌+◌, ◌*◌, length}
 use Rattle.std.specs.List.{flat_map}
 use Rattle.hir_scopes.specs.declared.opening.Around.{Around}
 use Rattle.hir_scopes.specs.Bounds.{ScopeLists}
-use Rattle.hir_scopes.specs.Chains.{Grown, InRange, Stands}
+use Rattle.hir_scopes.specs.Chains.{Grown, Stands}
 use Rattle.hir_scopes.specs.Records.{Kept, Records, SeenFrom, Walks}
 use Rattle.spec_scopes.specs.Placed.{Spot, after_each, after_part, in_scope, placed_arm, placed_block, placed_each}
 use Rattle.hir_scopes.proofs.+scopes.Given as goal

@@ -1,0 +1,6 @@
+pub mod StackLemmas
+pub mod PlaceLemmas
+pub mod WayLemmas
+pub mod AnswerLemmas
+pub mod BodyLemmas
+pub mod UpvarLemmas

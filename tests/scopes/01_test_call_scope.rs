@@ -1,0 +1,3 @@
+fn quux() {
+    f(|x| marker );
+}

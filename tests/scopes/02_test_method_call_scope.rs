@@ -1,0 +1,3 @@
+fn quux() {
+    z.f(|x| marker );
+}

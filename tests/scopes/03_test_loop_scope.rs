@@ -1,0 +1,6 @@
+fn quux() {
+    loop {
+        let x = ();
+        marker
+    };
+}

@@ -1,0 +1,7 @@
+fn quux() {
+    match () {
+        Some(x) => {
+            marker
+        }
+    };
+}

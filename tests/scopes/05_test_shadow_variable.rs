@@ -1,0 +1,3 @@
+fn foo(x: String) {
+    let x : &str = &xmarker;
+}

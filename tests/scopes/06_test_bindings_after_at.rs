@@ -1,0 +1,8 @@
+fn foo() {
+    match Some(()) {
+        opt @ Some(unit) => {
+            marker
+        }
+        _ => {}
+    }
+}

@@ -1,0 +1,11 @@
+macro_rules! mac {
+    () => {{
+        fn inner() {}
+        inner();
+    }};
+}
+
+fn foo() {
+    mac!();
+    marker
+}

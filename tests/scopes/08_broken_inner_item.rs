@@ -1,0 +1,4 @@
+fn foo() {
+    trait {}
+    marker
+}

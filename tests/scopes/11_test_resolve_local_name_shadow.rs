@@ -1,0 +1,4 @@
+fn foo(x: String) {
+    let x : &str = &x;
+    x
+}

@@ -1,0 +1,5 @@
+fn foo() {
+    if let Some(&from) = bar() {
+        from;
+    }
+}

@@ -1,0 +1,6 @@
+fn test() {
+    let foo: Option<f32> = None;
+    while let Option::Some(spam) = foo {
+        spam
+    }
+}
