@@ -38,14 +38,15 @@ pub record SeesAll (x : BodyInput) (b : Body) (m : BodySourceMap) : Type 0 where
   pub same : (c : Expr) (w : Where) → Stands x.read (outside x.formals.receiver (formals_read x.skipped x.formals.formals)) c w
       → SeesSame b.store m.store (formals_of b).0 root.root (outermost b.store (formals_of b).0 (formals_of b).1) c w
 
+-- Of an answer that is a body: if no constant among arguments binds a name for what follows it, each name means the same on both sides.
 abbrev pub AnswerAgrees : BodyInput → Answer → Type 0
 AnswerAgrees x answer = IfOk answer (λ r. ConstantsBindNothing r.0.store → SeesAll x r.0 r.1)
 
--- So it is of each answer of `lower_body` for a body that is no coroutine.
+-- This holds of each answer of `lower_body` for a body that is no coroutine.
 abbrev pub LoweredScopesAgree : Type 0
 LoweredScopesAgree = (x : BodyInput) (answer : Answer) → x.kind ≡ None → Promise x answer → AnswerAgrees x answer
 
--- So it is of each call, in any environment, whose arguments say that the body is neither `async` nor `gen`.
+-- This holds of each call, in any environment, whose arguments say that the body is neither `async` nor `gen`.
 abbrev pub CallsAgree : Type 0
 CallsAgree = (env : Answers) (owner : DefWithBodyId) (node : AstPtr) (file : HirFileId) (inside : ModuleId) (ps : Option AstParamList)
     (e : Option AstExpr) (answer : Answer)
