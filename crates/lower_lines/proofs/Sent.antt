@@ -15,10 +15,10 @@ use Rattle.lower_lines.specs.declared.call.Form.{Form}
 use Rattle.lower_lines.specs.declared.call.Form.TheVariants as form
 use Rattle.lower_lines.specs.declared.detail.Detail.TheVariants as detail
 
-pub sent : (mode : Mode) (f : Form) (line sent text : List ℕ) (a : Answer) (p q : Option (List ℕ)) (r : Result (Unit {0}) Failure)
-    → IsAnswerTo mode f line a → IsLineOf a text → sent ≡ text → OnOk r (Appends p q sent) → OnOk r (AnswersOne mode f line p q)
-sent mode f line sent text a p q (Err e) of says is appends = tt
-sent mode f line sent text a p q (Ok x) of says is appends = record {
+pub sent : (mode : Mode) (f : Form) (line out text : List ℕ) (a : Answer) (p q : Option (List ℕ)) (r : Result (Unit {0}) Failure)
+    → IsAnswerTo mode f line a → IsLineOf a text → out ≡ text → OnOk r (Appends p q out) → OnOk r (AnswersOne mode f line p q)
+sent mode f line out text a p q (Err e) of says is appends = tt
+sent mode f line out text a p q (Ok x) of says is appends = record {
   one = record { line = line; answer = a; text = text };
   of = refl;
   answered = record { answers = of; says = says };
@@ -26,10 +26,10 @@ sent mode f line sent text a p q (Ok x) of says is appends = record {
 }
 
 -- the same of one document, with the status of the answer
-pub sent_text : (mode : Mode) (status : ℕ) (line sent text : List ℕ) (a : Answer) (p q : Option (List ℕ))
-    → IsAnswerTo mode form.Json line a → IsLineOf a text → sent ≡ text → status ≡ status_of_answer a → Appends p q sent
+pub sent_text : (mode : Mode) (status : ℕ) (line out text : List ℕ) (a : Answer) (p q : Option (List ℕ))
+    → IsAnswerTo mode form.Json line a → IsLineOf a text → out ≡ text → status ≡ status_of_answer a → Appends p q out
     → AnswersText mode status line p q
-sent_text mode status line sent text a p q of says is ends appends = record {
+sent_text mode status line out text a p q of says is ends appends = record {
   one = record { line = line; answer = a; text = text };
   of = refl;
   answered = record { answers = of; says = says };

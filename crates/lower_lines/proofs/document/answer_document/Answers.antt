@@ -7,8 +7,8 @@ use Rattle.lower_lines.proofs.document.answer_document.Goals as goal
 
 pub returns-in-Ok-clause-answered : goal.returns-in-Ok-clause-answered
 returns-in-Ok-clause-answered g c =
-    sent_text _ _ _ _ _ _ _ _ c.of-answer.ensures c.in-Ok.ensures c.as_str.ensures.value c.status.ensures c.in_ok-send.ensures.sent
+    sent_text _ _ _ _ _ _ _ _ c.of-answer.ensures c.in-Ok.ensures c.as_str.ensures.value c.status.ensures c.in_ok-send-in-Ok.ensures.sent
 
 pub returns-clause-answered : goal.returns-clause-answered
 returns-clause-answered g c =
-    sent_text _ _ _ _ _ (answer.Fault failure.Memory detail.Nothing) _ _ tt refused refl c.status-2.ensures c.in_ok-send-2.ensures.sent
+    sent_text _ _ _ _ _ (answer.Fault failure.Memory detail.Nothing) _ _ tt refused refl c.status-in-Err.ensures c.in_ok-send-in-Err.ensures.sent
