@@ -6,6 +6,7 @@ ghost use Rattle.lower_c.specs.Results.{IsResult};
 
 mod border;
 mod modes;
+mod result;
 
 use crate::border::hand_over_result;
 use crate::modes::{lower, lower_json, mode_with};
@@ -39,7 +40,7 @@ pub extern "C" fn laxirbon_lower_json(
     out: &mut [u8],
     needed: &mut usize,
 ) -> u32
-    ensures { Answers (IsResult (mode_of mode) document.now) (mode_of mode) document.now result needed.new out.old out.new }
+    ensures { Answers IsResult (mode_of mode) document.now result needed.new out.old out.new }
 {
     let came = lower_json(alloc, mode_with(mode), document);
     hand_over_result(alloc, came, out, needed)

@@ -4,10 +4,10 @@ ghost use Rattle.std.specs.Prelude.{◌≡◌, IfOk, string_bytes};
 ghost use Rattle.lower_c.specs.Answers.{mode_of, CameOfCall};
 ghost use Rattle.lower_c.specs.Results.{IsResult};
 
-use lower_results::{lowered_among_many, result_json};
+use crate::result::result_json;
 use lower_run::failure::Failure;
 use lower_run::mode::Mode;
-use lower_run::run::listing_among_many;
+use lower_run::run::{listing_among_many, lowered_among_many};
 use std::alloc::Global;
 
 /// The mode with a number.
@@ -37,7 +37,7 @@ pub fn lower(alloc: Global, mode: Option<Mode>, document: &[u8]) -> Result<Strin
 /// The same with all that it is lowered to, as JSON.
 pub fn lower_json(alloc: Global, mode: Option<Mode>, document: &[u8]) -> Result<String, Failure>
     ensures came { CameOfCall mode document.now result }
-    ensures json { IfOk result (λ s. IsResult mode document.now (string_bytes s)) }
+    ensures json { IfOk result (λ s. IsResult (string_bytes s)) }
 {
     let Some(mode) = mode else {
         return Err(Failure::Usage);

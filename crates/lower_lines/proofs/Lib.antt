@@ -1,3 +1,4 @@
+mod Calls
 mod Read
 mod Sent
 mod SoFar

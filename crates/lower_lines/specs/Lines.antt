@@ -1,13 +1,12 @@
 -- What is answered to the lines of an input.
-use Rattle.std.specs.Prelude.{◌≡◌, ◌≢◌, ℕ, List, [], ◌∷◌, ◌++◌, map, ◌==◌, if◌then◌else◌, Option, Some, IfSome}
+use Rattle.std.specs.Prelude.{◌≡◌, ◌≢◌, ℕ, List, [], ◌∷◌, ◌++◌, map, ◌==◌, if◌then◌else◌, Option, Some, IfSome, Result, String}
 use Rattle.std.specs.List.{All, flat_map}
 use Rattle.std.specs.Io.KnownBytes.{Appends, Consumes}
-use Rattle.lower_run.specs.Answers.{ReadsAll}
+use Rattle.std.specs.declared.alloc.Global.{Global}
+use Rattle.lower_run.specs.Answers.{CameOf}
+use Rattle.lower_run.specs.declared.failure.Failure.{Failure}
 use Rattle.lower_run.specs.declared.mode.Mode.{Mode}
-use Rattle.lower_lines.specs.Answers.{IsAnswerTo, IsLineOf, status_of_answer}
-use Rattle.lower_lines.specs.declared.answer.Answer.{Answer}
-use Rattle.lower_lines.specs.declared.call.Form.{Form}
-use Rattle.lower_lines.specs.declared.call.Form.TheVariants as form
+use Rattle.lower_lines.specs.Answers.{IsLineOf}
 use Rattle.lower_lines.specs.declared.lines.Line.{Line}
 use Rattle.lower_lines.specs.declared.lines.Line.TheVariants as line
 
@@ -34,41 +33,29 @@ abbrev pub IsNextLine : Option (List ℕ) → Option (List ℕ) → Line → Typ
 IsNextLine old new (line.Ended text) = IsWithinLine text.items × Consumes old new (text.items ++ (10 ∷ []))
 IsNextLine old new (line.Rest text) = IsWithinLine text.items × WasAll old new text.items
 
--- a line, what is answered to it, and the line that says so
+-- a line, what came of it, and the line that is answered
 pub record Answered : Type 0 where
   pub line : List ℕ
-  pub answer : Answer
-  pub text : List ℕ
+  pub came : Result (String Global) Failure
+  pub answer : List ℕ
 
-pub record IsAnswered (mode : Mode) (form : Form) (a : Answered) : Type 0 where
-  pub answers : IsAnswerTo mode form a.line a.answer
-  pub says : IsLineOf a.answer a.text
+-- what is answered is what came of the line as a document
+pub record IsAnswered (mode : Mode) (a : Answered) : Type 0 where
+  pub came : CameOf mode a.line a.came
+  pub says : IsLineOf a.came a.answer
 
 -- one line was answered
-pub record AnswersOne (mode : Mode) (form : Form) (line : List ℕ) (out_old out_new : Option (List ℕ)) : Type 0 where
+pub record AnswersOne (mode : Mode) (line : List ℕ) (out_old out_new : Option (List ℕ)) : Type 0 where
   pub one : Answered
   pub of : one.line ≡ line
-  pub answered : IsAnswered mode form one
-  pub written : Appends out_old out_new one.text
+  pub answered : IsAnswered mode one
+  pub written : Appends out_old out_new one.answer
 
 -- all that was left was read, and each of its lines was answered, in order
-pub record AnswersAll (mode : Mode) (form : Form) (in_old in_new out_old out_new : Option (List ℕ)) : Type 0 where
+pub record AnswersAll (mode : Mode) (in_old in_new out_old out_new : Option (List ℕ)) : Type 0 where
   pub text : List ℕ
   pub read : WasAll in_old in_new text
   pub all : List Answered
   pub lines : lines_of text ≡ map (λ a. a.line) all
-  pub each : All (IsAnswered mode form) all
-  pub written : Appends out_old out_new (flat_map (λ a. a.text) all)
-
--- a text was answered with the result as JSON or its fault, and this is the status with which a single call ends for it
-pub record AnswersText (mode : Mode) (status : ℕ) (text : List ℕ) (out_old out_new : Option (List ℕ)) : Type 0 where
-  pub one : Answered
-  pub of : one.line ≡ text
-  pub answered : IsAnswered mode form.Json one
-  pub written : Appends out_old out_new one.text
-  pub ends : status ≡ status_of_answer one.answer
-
--- all that was left was read, and it was answered as one document
-abbrev pub AnswersDocument : Mode → ℕ → Option (List ℕ) → Option (List ℕ) → Option (List ℕ) → Option (List ℕ) → Type 0
-AnswersDocument mode status in_old in_new out_old out_new =
-    (text : List ℕ) × ReadsAll in_old in_new text × AnswersText mode status text out_old out_new
+  pub each : All (IsAnswered mode) all
+  pub written : Appends out_old out_new (flat_map (λ a. a.answer) all)

@@ -1,33 +1,20 @@
 //! What the words of a call ask for.
 
 ghost use Rattle.std.specs.Prelude.{◌≡◌};
-ghost use Rattle.lower_lines.specs.Calls.{asked_by, call_of, of_one, of_two, option_of};
+ghost use Rattle.lower_lines.specs.Calls.{asked, asked_by, call_of};
 
 use lower_run::mode::Mode;
 use std::convert::AsStr;
-
-/// In which form it is answered what a document is lowered to.
-#[derive(Clone, Copy)]
-pub enum Form {
-    /// As the listing that lower_tool prints.
-    Listing,
-    /// All of it, as JSON.
-    Json,
-}
 
 /// What the program is asked for.
 #[derive(Clone, Copy)]
 pub enum Call {
     Help,
     Version,
-    /// To answer each line.
-    Lines(Mode, Form),
-    /// To answer one document, which all of the input is.
-    Document(Mode),
+    Lines(Mode),
 }
 
 impl Call {
-    /// What one word asks for that is no mode's.
     fn with_word(word: &str) -> Option<Call>
         ensures { result ≡ asked_by word.now }
     {
@@ -38,42 +25,25 @@ impl Call {
         }
     }
 
-    /// What one word asks for.
-    fn of_one(word: &str) -> Option<Call>
-        ensures { result ≡ of_one word.now }
+    /// What words ask for that call for no mode.
+    #[tactic(auto, using(crate::proofs::Calls::more_is_not_asked))]
+    fn asked<W: AsStr>(words: &[W]) -> Option<Call>
+        ensures { result ≡ asked W.text words.now }
     {
-        match Mode::with_word(word) {
-            Some(mode) => Some(Call::Lines(mode, Form::Listing)),
-            None => Call::with_word(word),
+        let (word, more) = words.split_first()?;
+        if !more.is_empty() {
+            return None;
         }
+        Call::with_word(word.as_str())
     }
 
-    /// What a word behind that of a mode asks for.
-    fn with_option(mode: Mode, option: &str) -> Option<Call>
-        ensures { result ≡ option_of mode option.now }
-    {
-        match option {
-            "--json" => Some(Call::Lines(mode, Form::Json)),
-            "--document" => Some(Call::Document(mode)),
-            _ => None,
-        }
-    }
-
-    /// What two words ask for.
-    fn of_two(word: &str, option: &str) -> Option<Call>
-        ensures { result ≡ of_two word.now option.now }
-    {
-        Call::with_option(Mode::with_word(word)?, option)
-    }
-
-    /// What the words ask for: the word of a mode alone or with `--json` or `--document` behind it, or one of `--help` and `--version`.
+    /// What the words ask for: exactly one word, which is a mode's or one of `--help` and `--version`.
     pub fn of<W: AsStr>(words: &[W]) -> Option<Call>
         ensures { result ≡ call_of W.text words.now }
     {
-        match words {
-            [word] => Call::of_one(word.as_str()),
-            [word, option] => Call::of_two(word.as_str(), option.as_str()),
-            _ => None,
+        match Mode::called(words) {
+            Some(mode) => Some(Call::Lines(mode)),
+            None => Call::asked(words),
         }
     }
 }

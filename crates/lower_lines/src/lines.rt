@@ -5,7 +5,6 @@ ghost use Rattle.std.specs.Io.KnownBytes.{Appends};
 ghost use Rattle.lower_lines.specs.Lines.{AnswersAll, AnswersOne, IsNextLine};
 
 use crate::answer::{Answer, REFUSED};
-use crate::call::Form;
 use lower_run::failure::Failure;
 use lower_run::mode::Mode;
 use std::alloc::Global;
@@ -41,7 +40,7 @@ fn next_line<R: BufRead>(alloc: Global, input: &mut R) -> Result<Line, Failure>
 }
 
 /// Writes all of a line at once.
-pub fn send<O: Write>(out: &mut O, line: &str) -> Result<(), Failure>
+fn send<O: Write>(out: &mut O, line: &str) -> Result<(), Failure>
     ensures sent { OnOk result (Appends (O.contents out.old) (O.contents out.new) line.now) }
     ensures err { IfErr result (λ e. e ≡ Failure.Output) }
 {
@@ -52,17 +51,11 @@ pub fn send<O: Write>(out: &mut O, line: &str) -> Result<(), Failure>
 }
 
 /// Answers a document.
-fn answer_one<O: Write>(
-    alloc: Global,
-    mode: Mode,
-    form: Form,
-    line: &[u8],
-    out: &mut O,
-) -> Result<(), Failure>
-    ensures answered { OnOk result (AnswersOne mode form line.now (O.contents out.old) (O.contents out.new)) }
+fn answer_one<O: Write>(alloc: Global, mode: Mode, line: &[u8], out: &mut O) -> Result<(), Failure>
+    ensures answered { OnOk result (AnswersOne mode line.now (O.contents out.old) (O.contents out.new)) }
     ensures err { IfErr result (λ e. e ≡ Failure.Output) }
 {
-    match Answer::of(alloc, mode, form, line).line(alloc) {
+    match Answer::of(alloc, mode, line).line(alloc) {
         Ok(answer) => send(out, answer.as_str()),
         Err(_) => send(out, REFUSED),
     }
@@ -72,19 +65,18 @@ fn answer_one<O: Write>(
 fn answer_all<R: BufRead, O: Write>(
     alloc: Global,
     mode: Mode,
-    form: Form,
     input: &mut R,
     out: &mut O,
 ) -> Result<(), Failure>
     ensures answered { OnOk result
-        (AnswersAll mode form (R.remaining input.old) (R.remaining input.new) (O.contents out.old) (O.contents out.new)) }
+        (AnswersAll mode (R.remaining input.old) (R.remaining input.new) (O.contents out.old) (O.contents out.new)) }
     ensures err { IfErr result (λ e. (e ≡ Failure.Input) ⊎ (e ≡ Failure.Output) ⊎ (e ≡ Failure.Memory)) }
 {
     for _ in 0..u64::MAX {
         match next_line(alloc, input)? {
-            Line::Ended(text) => answer_one(alloc, mode, form, text.as_slice(), out)?,
+            Line::Ended(text) => answer_one(alloc, mode, text.as_slice(), out)?,
             Line::Rest(text) if text.is_empty() => return Ok(()),
-            Line::Rest(text) => return answer_one(alloc, mode, form, text.as_slice(), out),
+            Line::Rest(text) => return answer_one(alloc, mode, text.as_slice(), out),
         }
     }
     Err(Failure::Input)
@@ -98,17 +90,16 @@ fn answer_all<R: BufRead, O: Write>(
 pub fn lower_lines<R: BufRead, O: Write, X: Write>(
     alloc: Global,
     mode: Mode,
-    form: Form,
     input: &mut R,
     out: &mut O,
     errors: &mut X,
 ) -> u8
     ensures status { (result ≡ 0) ⊎ (result ≡ 2) ⊎ (result ≡ 3) }
     ensures answered { result ≡ 0 →
-        AnswersAll mode form (R.remaining input.old) (R.remaining input.new) (O.contents out.old) (O.contents out.new) }
+        AnswersAll mode (R.remaining input.old) (R.remaining input.new) (O.contents out.old) (O.contents out.new) }
     ensures silent { result ≡ 0 → errors.new ≡ errors.old }
 {
-    match answer_all(alloc, mode, form, input, out) {
+    match answer_all(alloc, mode, input, out) {
         Ok(()) => 0,
         Err(failure) => failure.report(errors),
     }

@@ -3,13 +3,10 @@
 
 mod answer;
 mod call;
-mod detail;
-mod document;
 mod lines;
-mod result;
+mod place;
 
-use crate::call::{Call, Form};
-use crate::document::lower_document;
+use crate::call::Call;
 use crate::lines::lower_lines;
 use lower_run::failure::Failure;
 use lower_run::mode::Mode;
@@ -19,31 +16,25 @@ use std::io::{BufReader, Write};
 use std::process::ExitCode;
 use std::rt::Env;
 
-const USAGE: &str = "usage: lower_lines path|type|pat|body|fn [--json|--document]\n";
+const USAGE: &str = "usage: lower_lines path|type|pat|body|fn\n";
 
 const VERSION: &str = "lower_lines 1\n";
 
 const HELP: &str = "\
-usage: lower_lines path|type|pat|body|fn [--json|--document]
+usage: lower_lines path|type|pat|body|fn
        lower_lines --help|--version
 
 Lowers the documents on standard input, one a line. Each is answered by a line on standard output, in order:
 
 {\"ok\":LISTING}
     what lower_tool prints of the document
-{\"ok\":RESULT}
-    with --json instead: all that it is lowered to
 {\"fault\":{\"status\":STATUS,\"text\":TEXT}}
     the status that lower_tool ends with, and what it says
 {\"fault\":{\"column\":COLUMN,\"line\":LINE,\"status\":2,\"text\":TEXT}}
     the same of a text that isn't JSON, and where it stops being JSON
-{\"fault\":{\"hint\":{\"member\":NAME,\"node\":NODE},\"status\":2,\"text\":TEXT}}
-    the same of a node that no field names, and a member that names it, but that isn't read
 
 The status is 0 once each line is answered, also by faults; 2 if the words are wrong or a stream failed; 3 if memory was refused for
 holding a line.
-
-With --document all of the input is one document. It is answered as with --json, and the status is the one that lower_tool ends with.
 ";
 
 /// The words that the program was given, without its own name.
@@ -59,32 +50,12 @@ fn refuse_words<X: Write>(errors: &mut X) -> u8 {
 }
 
 /// The status of a run on standard input and output.
-fn run_lines(rt: &HostRuntime, mode: Mode, form: Form) -> u8 {
+fn run_lines(rt: &HostRuntime, mode: Mode) -> u8 {
     let alloc = rt.alloc();
     match BufReader::new(alloc, rt.stdin().lock()) {
-        Ok(mut input) => {
-            lower_lines(
-                alloc,
-                mode,
-                form,
-                &mut input,
-                &mut rt.stdout(),
-                &mut rt.stderr(),
-            )
-        }
+        Ok(mut input) => lower_lines(alloc, mode, &mut input, &mut rt.stdout(), &mut rt.stderr()),
         Err(_) => Failure::Memory.report(&mut rt.stderr()),
     }
-}
-
-/// The status of a run for one document.
-fn run_document(rt: &HostRuntime, mode: Mode) -> u8 {
-    lower_document(
-        rt.alloc(),
-        mode,
-        &mut rt.stdin().lock(),
-        &mut rt.stdout(),
-        &mut rt.stderr(),
-    )
 }
 
 /// The status of a call.
@@ -92,8 +63,7 @@ fn status_of(rt: &HostRuntime, words: &[String]) -> u8 {
     match Call::of(words) {
         Some(Call::Help) => written(&mut rt.stdout(), &mut rt.stderr(), HELP),
         Some(Call::Version) => written(&mut rt.stdout(), &mut rt.stderr(), VERSION),
-        Some(Call::Lines(mode, form)) => run_lines(rt, mode, form),
-        Some(Call::Document(mode)) => run_document(rt, mode),
+        Some(Call::Lines(mode)) => run_lines(rt, mode),
         None => refuse_words(&mut rt.stderr()),
     }
 }

@@ -13,7 +13,8 @@ use crate::failure::Failure;
 use crate::input::read_all;
 use crate::mode::Mode;
 use crate::results::{
-    LoweredFunction, lowered_body, lowered_function, lowered_pat, lowered_path, lowered_type,
+    LoweredFunction, LoweringResult, lowered_body, lowered_function, lowered_pat, lowered_path,
+    lowered_tree, lowered_type,
 };
 use hir_alias::signature::AliasSignature;
 use hir_base::node::{HirFileId, InFile};
@@ -267,6 +268,18 @@ fn lowered_listing<L: Lists>(
     lists.listing(alloc, mode, document)
 }
 
+/// What a document is lowered to, of which first the aliases are.
+fn lowered_document(
+    alloc: Global,
+    mode: Mode,
+    document: &mut Document,
+) -> Result<LoweringResult, Failure>
+    ensures { IfErr result (λ e. (e ≡ Failure.Memory) ⊎ (e ≡ Failure.Full)) }
+{
+    add_aliases(alloc, &mut document.env, document.aliases.as_slice())?;
+    Ok(lowered_tree(alloc, mode, document, &document.env)?)
+}
+
 /// What is listed of the document that a text is in a mode.
 fn listing<L: Lists>(alloc: Global, lists: &L, mode: Mode, text: &[u8]) -> Result<String, Failure>
     ensures { CameOf mode text.now result }
@@ -285,6 +298,16 @@ pub fn listing_among_many(alloc: Global, mode: Mode, text: &[u8]) -> Result<Stri
     let listed = lowered_listing(alloc, &AmongMany, mode, &mut document);
     drop(document);
     listed
+}
+
+/// What the document that a text is in a mode is lowered to, for a process that has more to do: all that was read is dropped.
+pub fn lowered_among_many(alloc: Global, mode: Mode, text: &[u8]) -> Result<LoweringResult, Failure>
+    ensures { CameOf mode text.now result }
+{
+    let mut document = read_tree(alloc, mode.root(), text)?;
+    let lowered = lowered_document(alloc, mode, &mut document);
+    drop(document);
+    lowered
 }
 
 /// What is listed of what stands in the input. The words are judged before the input is read.

@@ -1,2 +1,0 @@
-mod Lowered
-pub mod Results
