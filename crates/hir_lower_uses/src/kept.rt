@@ -43,7 +43,7 @@ pub fn still_holds<E: LowerEnv>(kept: &Kept, env: &E) -> bool
     }
 }
 
-/// What was asked, if the environment answers it so when it is asked again. It does, but for expansions, which can't be compared.
+/// What was asked, if the environment answers it so when it is asked again. Exception: expansions, which can't be compared.
 fn asked_again<E: LowerEnv>(asked: Option<Vec<Asked>>, env: &E) -> Option<Vec<Asked>>
     ensures { IfKept (AllAnsweredAs (E.answers env.now)) (option_map (λ asked. asked.items) result) }
 {

@@ -240,3 +240,5 @@ module _ (store : Store) (meanings : List (Option BindingId)) (closure : ExprId)
         ],
     λ meant. ap (λ cs. has_binding cs b) is ∙ meant_there (body_exprs store closure) [] b meant,
   )
+
+pub ruleset owners = (no_owner, owner_itself, owner_inside)

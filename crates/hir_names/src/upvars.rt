@@ -115,7 +115,7 @@ fn set_of(alloc: Global, mut left: &[ExprId]) -> Result<BTreeSet<ExprId>, AllocE
 }
 
 /// Whether a binding is made by the parameters of a closure or in its body, of which this is the set of expressions.
-#[tactic(auto, using(crate::proofs::UpvarLemmas::no_owner, crate::proofs::UpvarLemmas::owner_itself, crate::proofs::UpvarLemmas::owner_inside))]
+#[tactic(auto, using(crate::proofs::UpvarLemmas::owners))]
 fn is_made_in(
     store: &ExpressionStore,
     closure: ExprId,
